@@ -1,0 +1,18 @@
+-- The laws that callers cite. Numbers: Xor, Linear, Field, Square. Lists: XorBytes, Same, Tab, Chunks, Array. Blocks as polynomials: TimesX, Num,
+-- Product, Horner, Spread, Jump. Test: a rule of many numbers by one computed test.
+pub mod Test
+pub mod Xor
+pub mod Linear
+pub mod XorBytes
+pub mod Same
+pub mod Tab
+pub mod Chunks
+pub mod Array
+pub mod Field
+pub mod Square
+pub mod TimesX
+pub mod Num
+pub mod Product
+pub mod Horner
+pub mod Spread
+pub mod Jump

@@ -1,0 +1,175 @@
+-- A list of bytes and its number: exclusive or, multiply by x and the jump are those of the ring on numbers; equal numbers are equal
+-- blocks.
+use mathlib.Core.Path.{_≡_, refl, sym, ap, ap₂, _∙_, subst}
+use mathlib.Core.List.{List, [], _∷_, _++_}
+use Prim.Native.Nat.{ℕ, zero, suc, _+_, _*_, _/_, _%_, _^_, _<_}
+use native.Mathlib.Nat.{suc-mul, mul-comm, mul-assoc, add-mul, add-comm, zero-add, zero-mul, div-add-mod', mod-lt, mod-eq-of-lt, suc-inj, mul-div-mul-right}
+use native.Mathlib.Numerals.{add-one}
+use native.Mathlib.Omega.{arith}
+use lib.Arith.{digits-lt, digits-div, digits-mod}
+use lib.Bits.{bitXor, xor-block, xor-shifted}
+use lib.Dec.{lit<}
+use lib.ListN.{length, getD, take, length-append}
+use lib.Pow.{pow-add, pow-pos, mod-pow-add}
+use lib.Seq.{take-suc}
+use Rattle.blocks.specs.Bytes.{Bytes, Block, xorBytes, zeros}
+use Rattle.blocks.specs.Field.{step, steps}
+use Rattle.blocks.specs.Gf128.{fallen, shiftLeft, reduction, timesX, jump, num, bytesOf}
+use Rattle.blocks.proofs.XorBytes.{length-xor}
+use Rattle.blocks.proofs.TimesX.{fallen-lt, length-shift, length-reduction, bytes-shift, bytes-reduction, block-jump}
+
+pub wide : (n : ℕ) → 2 ^ (suc n * 8) ≡ 2 ^ (n * 8) * 256
+wide n = ap (λ (z : ℕ). 2 ^ z) (suc-mul n 8) ∙ pow-add 2 (n * 8) 8
+
+pub num-lt : (a : List ℕ) → Bytes a → num a < 2 ^ (length a * 8)
+unfolding num
+num-lt [] h = lit< tt
+num-lt (x ∷ a) h =
+    rw (wide (length a), mul-comm (2 ^ (length a * 8)) 256) (digits-lt (h 0) (num-lt a (λ i. h (suc i))))
+
+pub block-lt : (a : List ℕ) → Block a → num a < 2 ^ 128
+block-lt a h = subst (λ (n : ℕ). num a < 2 ^ (n * 8)) (h .long) (num-lt a (h .bytes))
+
+-- ---- from lists to numbers, and back
+
+pub num-injective : (a b : List ℕ) → length a ≡ length b → Bytes a → Bytes b → num a ≡ num b → a ≡ b
+unfolding num
+num-injective [] [] e ha hb h = refl
+num-injective [] (y ∷ b) e ha hb h = absurd (omega arith)
+num-injective (x ∷ a) [] e ha hb h = absurd (omega arith)
+num-injective (x ∷ a) (y ∷ b) e ha hb h =
+    let f : length a ≡ length b = suc-inj e in
+    let w = 2 ^ (length a * 8) in
+    let la : num a < w = num-lt a (λ i. ha (suc i)) in
+    let lb : num b < w = subst (λ (n : ℕ). num b < 2 ^ (n * 8)) (sym f) (num-lt b (λ i. hb (suc i))) in
+    let k : x * w + num a ≡ y * w + num b = h ∙ ap (λ (n : ℕ). y * 2 ^ (n * 8) + num b) (sym f) in
+    ap₂ (λ (z : ℕ) (t : List ℕ). z ∷ t) (sym (digits-div x la) ∙ ap (λ (z : ℕ). z / w) k ∙ digits-div y lb)
+    (num-injective a b f (λ i. ha (suc i)) (λ i. hb (suc i)) (sym (digits-mod x la) ∙ ap (λ (z : ℕ). z % w) k ∙ digits-mod y lb))
+
+pub same-block : {a b : List ℕ} → Block a → Block b → num a ≡ num b → a ≡ b
+same-block {a} {b} ha hb h = num-injective a b (ha .long ∙ sym (hb .long)) (ha .bytes) (hb .bytes) h
+
+length-bytesOf : (n v : ℕ) → length (bytesOf n v) ≡ n
+unfolding bytesOf
+length-bytesOf zero v = refl
+length-bytesOf (suc n) v = ap suc (length-bytesOf n v)
+
+bytes-bytesOf : (n v : ℕ) → Bytes (bytesOf n v)
+unfolding bytesOf
+bytes-bytesOf zero v i = lit< tt
+bytes-bytesOf (suc n) v zero = mod-lt (v / 2 ^ (n * 8)) (lit< tt)
+bytes-bytesOf (suc n) v (suc i) = bytes-bytesOf n v i
+
+pub block-bytesOf : (v : ℕ) → Block (bytesOf 16 v)
+block-bytesOf v = record { long = length-bytesOf 16 v; bytes = bytes-bytesOf 16 v }
+
+num-low-bytes : (n v : ℕ) → num (bytesOf n v) ≡ v % 2 ^ (n * 8)
+unfolding num bytesOf
+num-low-bytes zero v = let e : 0 ≡ v % 1 = omega arith in e
+num-low-bytes (suc n) v =
+    ap₂ (λ (m z : ℕ). v / 2 ^ (n * 8) % 256 * 2 ^ (m * 8) + z) (length-bytesOf n v) (num-low-bytes n v)
+    ∙ sym (ap (λ (z : ℕ). v % 2 ^ z) (suc-mul n 8 ∙ add-comm (n * 8) 8) ∙ mod-pow-add v 8 (n * 8))
+
+pub num-bytesOf : (v : ℕ) → v < 2 ^ 128 → num (bytesOf 16 v) ≡ v
+num-bytesOf v h = num-low-bytes 16 v ∙ mod-eq-of-lt h
+
+-- ---- one list after another
+
+regroup : (x u v n m : ℕ) → x * (u * v) + (n * v + m) ≡ (x * u + n) * v + m
+regroup x u v n m =
+    let e : (x * u + n) * v ≡ x * u * v + n * v = add-mul (x * u) n v in
+    let f : x * (u * v) ≡ x * u * v = sym (mul-assoc x u v) in
+    omega arith
+
+pub num-append : (a b : List ℕ) → num (a ++ b) ≡ num a * 2 ^ (length b * 8) + num b
+unfolding num
+num-append [] b = sym (ap (λ (z : ℕ). z + num b) (zero-mul (2 ^ (length b * 8))) ∙ zero-add (num b))
+num-append (x ∷ a) b =
+    let e : (length a + length b) * 8 ≡ length a * 8 + length b * 8 = add-mul (length a) (length b) 8 in
+    ap₂ (λ (n z : ℕ). x * 2 ^ (n * 8) + z) (length-append a b) (num-append a b)
+    ∙ ap (λ (w : ℕ). x * w + (num a * 2 ^ (length b * 8) + num b)) (ap (λ (z : ℕ). 2 ^ z) e ∙ pow-add 2 (length a * 8) (length b * 8))
+    ∙ regroup x (2 ^ (length a * 8)) (2 ^ (length b * 8)) (num a) (num b)
+
+-- a byte more
+pub num-take : (a : List ℕ) (i : ℕ) → i < length a → num (take (i + 1) a) ≡ num (take i a) * 2 ^ 8 + getD a i 0
+unfolding num
+num-take a i h =
+    let e : getD a i 0 * 1 + 0 ≡ getD a i 0 = omega arith in
+    ap (λ (n : ℕ). num (take n a)) (add-one i) ∙ ap num (take-suc a i 0 h) ∙ num-append (take i a) (getD a i 0 ∷ [])
+    ∙ ap (λ (z : ℕ). num (take i a) * 2 ^ 8 + z) e
+
+-- ---- exclusive or
+
+pub num-xorBytes : (a b : List ℕ) → length a ≡ length b → Bytes a → Bytes b → num (xorBytes a b) ≡ bitXor (num a) (num b)
+unfolding num xorBytes
+num-xorBytes [] [] e ha hb = refl
+num-xorBytes [] (y ∷ b) e ha hb = absurd (omega arith)
+num-xorBytes (x ∷ a) [] e ha hb = absurd (omega arith)
+num-xorBytes (x ∷ a) (y ∷ b) e ha hb =
+    let f : length a ≡ length b = suc-inj e in
+    ap₂ (λ (n r : ℕ). bitXor x y * 2 ^ (n * 8) + r) (length-xor a b f) (num-xorBytes a b f (λ i. ha (suc i)) (λ i. hb (suc i)))
+    ∙ sym (xor-block (length a * 8) x y (num a) (num b) (num-lt a (λ i. ha (suc i)))
+    (subst (λ (n : ℕ). num b < 2 ^ (n * 8)) (sym f) (num-lt b (λ i. hb (suc i)))))
+    ∙ ap (λ (n : ℕ). bitXor (x * 2 ^ (length a * 8) + num a) (y * 2 ^ (n * 8) + num b)) f
+
+pub num-xor : (a b : List ℕ) → Block a → Block b → num (xorBytes a b) ≡ bitXor (num a) (num b)
+num-xor a b ha hb = num-xorBytes a b (ha .long ∙ sym (hb .long)) (ha .bytes) (hb .bytes)
+
+-- ---- a shift
+
+swap : (a k w : ℕ) → a * k * w ≡ a * w * k
+swap a k w = mul-assoc a k w ∙ ap (λ (z : ℕ). a * z) (mul-comm k w) ∙ sym (mul-assoc a w k)
+
+-- a byte's shift, as a sum
+low-sum : (x t : ℕ) → t < 2 → bitXor (x * 2 % 256) t ≡ x % 128 * 2 + t
+low-sum x t h = let e : x * 2 % 256 ≡ x % 128 * 2 = omega arith in ap (λ (z : ℕ). bitXor z t) e ∙ xor-shifted (x % 128) 1 t h
+
+carried : (x t w s n : ℕ) → s + t * w ≡ n * 2 → (x % 128 * 2 + t) * w + s + x / 128 * (w * 256) ≡ (x * w + n) * 2
+carried x t w s n ih =
+    let e : (x % 128 * 2 + t) * w ≡ x % 128 * w * 2 + t * w = add-mul (x % 128 * 2) t w ∙ ap (λ (z : ℕ). z + t * w) (swap (x % 128) 2 w) in
+    let f : x / 128 * (w * 256) ≡ x / 128 * w * 256 = sym (mul-assoc (x / 128) w 256) in
+    let g : x * w ≡ x / 128 * w * 128 + x % 128 * w =
+    ap (λ (z : ℕ). z * w) (sym (div-add-mod' x 128)) ∙ add-mul (x / 128 * 128) (x % 128) w ∙ ap (λ (z : ℕ). z + x % 128 * w) (swap (x / 128) 128 w) in
+    omega arith
+
+num-shift : (a : List ℕ) → Bytes a → num (shiftLeft a) + fallen a * 2 ^ (length a * 8) ≡ num a * 2
+unfolding num shiftLeft fallen
+num-shift [] h = refl
+num-shift (x ∷ a) h =
+    let b : x / 128 % 2 ≡ x / 128 = omega (arith, h 0) in
+    ap (λ (n : ℕ). bitXor (x * 2 % 256) (fallen a) * 2 ^ (n * 8) + num (shiftLeft a) + x / 128 % 2 * 2 ^ (suc (length a) * 8)) (length-shift a)
+    ∙ ap₂ (λ (y t : ℕ). y * 2 ^ (length a * 8) + num (shiftLeft a) + t * 2 ^ (suc (length a) * 8)) (low-sum x (fallen a) (fallen-lt a)) b
+    ∙ ap (λ (w : ℕ). (x % 128 * 2 + fallen a) * 2 ^ (length a * 8) + num (shiftLeft a) + x / 128 * w) (wide (length a))
+    ∙ carried x (fallen a) (2 ^ (length a * 8)) (num (shiftLeft a)) (num a) (num-shift a (λ i. h (suc i)))
+
+num-reduction : (t : ℕ) → num (reduction t) ≡ t * 0x87
+unfolding reduction num
+num-reduction t = let e : 0 + (t * 0x87 * 1 + 0) ≡ t * 0x87 = omega arith in num-append (zeros 15) (t * 0x87 ∷ []) ∙ e
+
+-- ---- multiply by x, and the jump
+
+module _ (b : List ℕ) (h : Block b) where
+  shifted : fallen b * 2 ^ 128 + num (shiftLeft b) ≡ num b * 2
+  shifted = add-comm (fallen b * 2 ^ 128) (num (shiftLeft b)) ∙ ap (λ (n : ℕ). num (shiftLeft b) + fallen b * 2 ^ (n * 8)) (sym (h .long)) ∙ num-shift b (h .bytes)
+
+  shift-lt : num (shiftLeft b) < 2 ^ 128
+  shift-lt = subst (λ (n : ℕ). num (shiftLeft b) < 2 ^ (n * 8)) (length-shift b ∙ h .long) (num-lt (shiftLeft b) (bytes-shift b))
+
+  num-low : num (shiftLeft b) ≡ num b * 2 % 2 ^ 128
+  num-low = sym (digits-mod (fallen b) shift-lt) ∙ ap (λ (n : ℕ). n % 2 ^ 128) shifted
+
+  num-top : fallen b ≡ num b / 2 ^ 127 % 2
+  num-top =
+      sym (mod-eq-of-lt (fallen-lt b))
+      ∙ ap (λ (n : ℕ). n % 2) (sym (digits-div (fallen b) shift-lt) ∙ ap (λ (n : ℕ). n / 2 ^ 128) shifted ∙ mul-div-mul-right (num b) (2 ^ 127) (lit< tt))
+
+  pub num-timesX : num (timesX b) ≡ step 127 0x87 (num b)
+  unfolding timesX step
+  num-timesX =
+      num-xorBytes (shiftLeft b) (reduction (fallen b)) (length-shift b ∙ h .long ∙ sym (length-reduction (fallen b))) (bytes-shift b) (bytes-reduction (fallen b) (fallen-lt b))
+      ∙ ap₂ bitXor num-low (num-reduction (fallen b) ∙ ap (λ (n : ℕ). n * 0x87) num-top)
+
+pub num-jump : (n : ℕ) (b : List ℕ) → Block b → num (jump n b) ≡ steps 127 0x87 n (num b)
+unfolding jump steps
+num-jump zero b h = refl
+num-jump (suc n) b h = num-timesX (jump n b) (block-jump n b h) ∙ ap (step 127 0x87) (num-jump n b h)

@@ -1,0 +1,77 @@
+-- The ring of blocks: the product of two blocks is linear on both sides, commutes and associates, 1 does nothing, and the product with
+-- x^n is the jump by n.
+use mathlib.Core.Path.{_≡_, refl, sym, ap, ap₂, _∙_}
+use mathlib.Core.List.{List}
+use Prim.Native.Nat.{ℕ, _+_, _^_, _<_}
+use lib.Bits.{bitXor}
+use lib.Dec.{lit<}
+use Rattle.blocks.specs.Bytes.{Block, xorBytes}
+use Rattle.blocks.specs.Field.{steps, mul}
+use Rattle.blocks.specs.Gf128.{timesX, jump, num, product, one, power}
+use Rattle.blocks.proofs.Field.{mul-left, mul-right, mul-one, mul-comm, mul-assoc, mul-lt, mul-steps, steps-mul, power-mul}
+use Rattle.blocks.proofs.XorBytes.{block-xor}
+use Rattle.blocks.proofs.TimesX.{block-jump, block-one, block-power}
+use Rattle.blocks.proofs.Num.{same-block, block-lt, block-bytesOf, num-bytesOf, num-xor, num-jump}
+
+pub poly-lt : 0x87 < 2 ^ 128
+poly-lt = lit< tt
+
+pub block-product : (a b : List ℕ) → Block (product a b)
+unfolding product
+block-product a b = block-bytesOf (mul 127 0x87 (num a) (num b))
+
+pub num-product : (a b : List ℕ) → Block b → num (product a b) ≡ mul 127 0x87 (num a) (num b)
+unfolding product
+num-product a b hb = num-bytesOf (mul 127 0x87 (num a) (num b)) (mul-lt 127 0x87 poly-lt (num a) (num b) (block-lt b hb))
+
+-- a block that has the product's number is the product
+pub product-is : (a b r : List ℕ) → Block b → Block r → num r ≡ mul 127 0x87 (num a) (num b) → r ≡ product a b
+product-is a b r hb hr e = same-block hr (block-product a b) (e ∙ sym (num-product a b hb))
+
+pub num-one : num one ≡ 1
+unfolding num one
+num-one = refl
+
+pub num-power : (n : ℕ) → num (power n) ≡ steps 127 0x87 n 1
+unfolding power
+num-power n = num-jump n one block-one ∙ ap (steps 127 0x87 n) num-one
+
+pub product-comm : (a b : List ℕ) → Block a → Block b → product a b ≡ product b a
+product-comm a b ha hb =
+    product-is b a (product a b) ha (block-product a b) (num-product a b hb ∙ mul-comm 127 0x87 (num a) (num b) (block-lt a ha) (block-lt b hb))
+
+pub product-assoc : (a b c : List ℕ) → Block a → Block b → Block c → product (product a b) c ≡ product a (product b c)
+product-assoc a b c ha hb hc =
+    product-is a (product b c) (product (product a b) c) (block-product b c) (block-product (product a b) c)
+    (num-product (product a b) c hc ∙ ap (λ (z : ℕ). mul 127 0x87 z (num c)) (num-product a b hb)
+    ∙ mul-assoc 127 0x87 poly-lt (num a) (num b) (num c) (block-lt a ha) (block-lt b hb) (block-lt c hc)
+    ∙ ap (mul 127 0x87 (num a)) (sym (num-product b c hc)))
+
+pub product-xor-right : (a b c : List ℕ) → Block b → Block c → product a (xorBytes b c) ≡ xorBytes (product a b) (product a c)
+product-xor-right a b c hb hc =
+    same-block (block-product a (xorBytes b c)) (block-xor (product a b) (product a c) (block-product a b) (block-product a c))
+    (num-product a (xorBytes b c) (block-xor b c hb hc) ∙ ap (mul 127 0x87 (num a)) (num-xor b c hb hc) ∙ mul-right 127 0x87 (num a) (num b) (num c)
+    ∙ sym (num-xor (product a b) (product a c) (block-product a b) (block-product a c) ∙ ap₂ bitXor (num-product a b hb) (num-product a c hc)))
+
+pub product-xor-left : (a b c : List ℕ) → Block a → Block b → Block c → product (xorBytes a b) c ≡ xorBytes (product a c) (product b c)
+product-xor-left a b c ha hb hc =
+    product-comm (xorBytes a b) c (block-xor a b ha hb) hc ∙ product-xor-right c a b ha hb
+    ∙ ap₂ xorBytes (product-comm c a hc ha) (product-comm c b hc hb)
+
+pub product-one : (a : List ℕ) → Block a → product a one ≡ a
+product-one a ha =
+    sym (product-is a one a block-one ha (sym (ap (mul 127 0x87 (num a)) num-one ∙ mul-one 127 0x87 (num a) (block-lt a ha))))
+
+-- a jump of a factor is a jump of the product
+pub product-jump : (n : ℕ) (a b : List ℕ) → Block b → product a (jump n b) ≡ jump n (product a b)
+product-jump n a b hb =
+    same-block (block-product a (jump n b)) (block-jump n (product a b) (block-product a b))
+    (num-product a (jump n b) (block-jump n b hb) ∙ ap (mul 127 0x87 (num a)) (num-jump n b hb) ∙ mul-steps 127 0x87 n (num a) (num b)
+    ∙ sym (num-jump n (product a b) (block-product a b) ∙ ap (steps 127 0x87 n) (num-product a b hb)))
+
+-- the product with x^n is the jump by n
+pub product-power : (n : ℕ) (b : List ℕ) → Block b → product (power n) b ≡ jump n b
+product-power n b hb =
+    same-block (block-product (power n) b) (block-jump n b hb)
+    (num-product (power n) b hb ∙ ap (λ (z : ℕ). mul 127 0x87 z (num b)) (num-power n) ∙ power-mul 127 0x87 poly-lt n (num b) (lit< tt) (block-lt b hb)
+    ∙ sym (num-jump n b hb))

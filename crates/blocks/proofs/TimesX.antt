@@ -1,0 +1,162 @@
+-- Multiply by x and the jump, on blocks: lengths and bytes, both go through exclusive or, jumps add; and how the code does it.
+use mathlib.Core.Path.{_≡_, refl, sym, ap, ap₂, _∙_}
+use mathlib.Core.List.{List, [], _∷_, _++_}
+use Prim.Native.Nat.{ℕ, zero, suc, _+_, _*_, _/_, _%_, _<_}
+use native.Mathlib.Nat.{suc-inj, mod-lt, lt-of-lt-of-le, le-of-eq, zero-add, suc-add}
+use native.Mathlib.Numerals.{add-one}
+use native.Mathlib.Omega.{arith}
+use lib.Bits.{bitXor, bitAnd, bitOr, xor-mod, xor-shr, xor-shifted, or-shifted, and-mask, xor-zero-r}
+use lib.Dec.{lit<}
+use lib.ListN.{length, getD, getD-replicate, List·getD-append, List·getD-eq-default}
+use Rattle.blocks.specs.Bytes.{Bytes, Block, xorBytes, zeros}
+use Rattle.blocks.specs.Gf128.{fallen, shiftLeft, reduction, timesX, jump, one, power}
+use Rattle.blocks.proofs.Test.{bytes-by}
+use Rattle.blocks.proofs.Xor.{two-pos, bit-xor, xor-swap, xor8}
+use Rattle.blocks.proofs.Linear.{double, scale-bit}
+use Rattle.blocks.proofs.XorBytes.{length-xor, bytes-xor, getD-xor, xorBytes-swap}
+
+pub fallen-lt : (a : List ℕ) → fallen a < 2
+unfolding fallen
+fallen-lt [] = two-pos
+fallen-lt (x ∷ a) = mod-lt (x / 128) two-pos
+
+-- ---- blocks go to blocks
+
+pub length-shift : (b : List ℕ) → length (shiftLeft b) ≡ length b
+unfolding shiftLeft
+length-shift [] = refl
+length-shift (x ∷ b) = ap suc (length-shift b)
+
+pub length-reduction : (bit : ℕ) → length (reduction bit) ≡ 16
+unfolding reduction
+length-reduction bit = refl
+
+pub length-timesX : (b : List ℕ) → length b ≡ 16 → length (timesX b) ≡ 16
+unfolding timesX
+length-timesX b e = length-xor (shiftLeft b) (reduction (fallen b)) (length-shift b ∙ e ∙ sym (length-reduction (fallen b))) ∙ length-shift b ∙ e
+
+pub bytes-shift : (a : List ℕ) → Bytes (shiftLeft a)
+unfolding shiftLeft
+bytes-shift [] i = lit< tt
+bytes-shift (x ∷ a) zero = xor8 (x * 2 % 256) (fallen a) (mod-lt (x * 2) (lit< tt)) (lt-of-lt-of-le (fallen-lt a) (omega arith))
+bytes-shift (x ∷ a) (suc i) = bytes-shift a i
+
+pub bytes-reduction : (bit : ℕ) → bit < 2 → Bytes (reduction bit)
+unfolding reduction
+bytes-reduction zero h = bytes-by (zeros 15 ++ (0 ∷ [])) tt
+bytes-reduction (suc zero) h = bytes-by (zeros 15 ++ (0x87 ∷ [])) tt
+bytes-reduction (suc (suc bit)) h = absurd (omega arith)
+
+pub block-timesX : (b : List ℕ) → length b ≡ 16 → Block (timesX b)
+unfolding timesX
+block-timesX b e = record {
+  long = length-timesX b e;
+  bytes = bytes-xor (shiftLeft b) (reduction (fallen b)) (length-shift b ∙ e ∙ sym (length-reduction (fallen b))) (bytes-shift b) (bytes-reduction (fallen b) (fallen-lt b));
+}
+
+pub length-jump : (n : ℕ) (b : List ℕ) → length b ≡ 16 → length (jump n b) ≡ 16
+unfolding jump
+length-jump zero b e = e
+length-jump (suc n) b e = length-timesX (jump n b) (length-jump n b e)
+
+pub block-jump : (n : ℕ) (b : List ℕ) → Block b → Block (jump n b)
+unfolding jump
+block-jump zero b h = h
+block-jump (suc n) b h = block-timesX (jump n b) (block-jump n b h .long)
+
+pub block-one : Block one
+unfolding one
+block-one = record { long = refl; bytes = bytes-by (zeros 15 ++ (1 ∷ [])) tt }
+
+pub block-power : (n : ℕ) → Block (power n)
+unfolding power
+block-power n = block-jump n one block-one
+
+-- ---- through exclusive or
+
+fallen-xor : (a b : List ℕ) → length a ≡ length b → fallen (xorBytes a b) ≡ bitXor (fallen a) (fallen b)
+unfolding fallen xorBytes
+fallen-xor [] [] e = refl
+fallen-xor [] (y ∷ b) e = absurd (omega arith)
+fallen-xor (x ∷ a) [] e = absurd (omega arith)
+fallen-xor (x ∷ a) (y ∷ b) e = ap (λ (z : ℕ). z % 2) (xor-shr x y 7) ∙ xor-mod (x / 128) (y / 128) 1
+
+shift-xor : (a b : List ℕ) → length a ≡ length b → shiftLeft (xorBytes a b) ≡ xorBytes (shiftLeft a) (shiftLeft b)
+unfolding shiftLeft xorBytes
+shift-xor [] [] e = refl
+shift-xor [] (y ∷ b) e = absurd (omega arith)
+shift-xor (x ∷ a) [] e = absurd (omega arith)
+shift-xor (x ∷ a) (y ∷ b) e =
+    ap₂ (λ (h : ℕ) (t : List ℕ). h ∷ t)
+    (ap₂ bitXor (ap (λ (z : ℕ). z % 256) (double x y) ∙ xor-mod (x * 2) (y * 2) 8) (fallen-xor a b (suc-inj e))
+    ∙ xor-swap (x * 2 % 256) (y * 2 % 256) (fallen a) (fallen b))
+    (shift-xor a b (suc-inj e))
+
+reduction-xor : (s t : ℕ) → s < 2 → t < 2 → reduction (bitXor s t) ≡ xorBytes (reduction s) (reduction t)
+unfolding reduction xorBytes
+reduction-xor s t hs ht = ap (λ (z : ℕ). zeros 15 ++ (z ∷ [])) (ap (λ (z : ℕ). z * 0x87) (sym (bit-xor s t hs ht)) ∙ scale-bit 0x87 s t hs ht)
+
+pub timesX-xor : (a b : List ℕ) → length a ≡ length b → timesX (xorBytes a b) ≡ xorBytes (timesX a) (timesX b)
+unfolding timesX
+timesX-xor a b e =
+    ap₂ xorBytes (shift-xor a b e) (ap reduction (fallen-xor a b e) ∙ reduction-xor (fallen a) (fallen b) (fallen-lt a) (fallen-lt b))
+    ∙ xorBytes-swap (shiftLeft a) (shiftLeft b) (reduction (fallen a)) (reduction (fallen b))
+
+pub jump-xor : (n : ℕ) (a b : List ℕ) → length a ≡ 16 → length b ≡ 16 → jump n (xorBytes a b) ≡ xorBytes (jump n a) (jump n b)
+unfolding jump
+jump-xor zero a b ea eb = refl
+jump-xor (suc n) a b ea eb =
+    ap timesX (jump-xor n a b ea eb) ∙ timesX-xor (jump n a) (jump n b) (length-jump n a ea ∙ sym (length-jump n b eb))
+
+-- ---- jumps add
+
+pub jump-add : (n m : ℕ) (b : List ℕ) → jump (n + m) b ≡ jump n (jump m b)
+unfolding jump
+jump-add zero m b = ap (λ (z : ℕ). jump z b) (zero-add m)
+jump-add (suc n) m b = ap (λ (z : ℕ). jump z b) (suc-add n m) ∙ ap timesX (jump-add n m b)
+
+-- ---- as the code does it: a byte's seven low bits, and the top bit of the next byte
+
+pub fallen-at : (b : List ℕ) → Bytes b → fallen b ≡ getD b 0 0 / 128
+unfolding fallen
+fallen-at [] h = refl
+fallen-at (x ∷ b) h = omega (arith, h 0)
+
+pub carry : (x t : ℕ) → t < 2 → bitOr (bitAnd x 0x7f * 2 % 256) t ≡ bitXor (x * 2 % 256) t
+carry x t h =
+    let e : x % 128 * 2 % 256 ≡ x % 128 * 2 = omega arith in
+    let f : x % 128 * 2 ≡ x * 2 % 256 = omega arith in
+    ap (λ (z : ℕ). bitOr (z * 2 % 256) t) (and-mask x 7) ∙ ap (λ (z : ℕ). bitOr z t) e ∙ or-shifted (x % 128) 1 t h
+    ∙ sym (xor-shifted (x % 128) 1 t h) ∙ ap (λ (z : ℕ). bitXor z t) f
+
+getD-shift : (b : List ℕ) (i : ℕ) → Bytes b → getD (shiftLeft b) i 0 ≡ bitXor (getD b i 0 * 2 % 256) (getD b (suc i) 0 / 128)
+unfolding shiftLeft
+getD-shift [] i h = refl
+getD-shift (x ∷ b) zero h = ap (bitXor (x * 2 % 256)) (fallen-at b (λ i. h (suc i)))
+getD-shift (x ∷ b) (suc i) h = getD-shift b i (λ j. h (suc j))
+
+getD-timesX : (b : List ℕ) (i : ℕ) → Block b
+    → getD (timesX b) i 0 ≡ bitXor (bitXor (getD b i 0 * 2 % 256) (getD b (suc i) 0 / 128)) (getD (reduction (getD b 0 0 / 128)) i 0)
+unfolding timesX
+getD-timesX b i h =
+    getD-xor (shiftLeft b) (reduction (fallen b)) i (length-shift b ∙ h .long ∙ sym (length-reduction (fallen b)))
+    ∙ ap₂ (λ (x t : ℕ). bitXor x (getD (reduction t) i 0)) (getD-shift b i (h .bytes)) (fallen-at b (h .bytes))
+
+-- a byte but the last
+pub timesX-low : (b : List ℕ) (i : ℕ) → Block b → i < 15 → bitOr (bitAnd (getD b i 0) 0x7f * 2 % 256) (getD b (i + 1) 0 / 128) ≡ getD (timesX b) i 0
+unfolding reduction
+timesX-low b i h l =
+    let t = getD b (suc i) 0 / 128 in
+    let k : t < 2 = omega (arith, h .bytes (suc i)) in
+    let z : getD (zeros 15 ++ (getD b 0 0 / 128 * 0x87 ∷ [])) i 0 ≡ 0 = List·getD-append (zeros 15) (getD b 0 0 / 128 * 0x87 ∷ []) 0 i l ∙ getD-replicate 15 i 0 0 l in
+    ap (λ (j : ℕ). bitOr (bitAnd (getD b i 0) 0x7f * 2 % 256) (getD b j 0 / 128)) (add-one i) ∙ carry (getD b i 0) t k
+    ∙ sym (getD-timesX b i h ∙ ap (bitXor (bitXor (getD b i 0 * 2 % 256) t)) z ∙ xor-zero-r (bitXor (getD b i 0 * 2 % 256) t))
+
+-- the last, with 87 where a one fell out
+pub timesX-last : (b : List ℕ) → Block b → bitXor (getD b 15 0 * 2 % 256) (getD b 0 0 / 128 * 0x87) ≡ getD (timesX b) 15 0
+unfolding reduction
+timesX-last b h =
+    let z : getD b 16 0 ≡ 0 = List·getD-eq-default b 0 {n = 16} (le-of-eq (h .long)) in
+    sym (getD-timesX b 15 h
+    ∙ ap (λ (k : ℕ). bitXor (bitXor (getD b 15 0 * 2 % 256) (k / 128)) (getD b 0 0 / 128 * 0x87)) z
+    ∙ ap (λ (k : ℕ). bitXor k (getD b 0 0 / 128 * 0x87)) (xor-zero-r (getD b 15 0 * 2 % 256)))

@@ -1,0 +1,141 @@
+// A block as a polynomial over GF(2) of degree below 128, modulo x^128 + x^7 + x^2 + x + 1. The top bit of the first byte is the
+// coefficient of x^127.
+ghost use mathlib.Core.Path.{_≡_};
+ghost use Prim.Native.Nat.{_*_, _<_, _≤_};
+ghost use lib.Bits.{bitXor};
+ghost use lib.ListN.{take, drop};
+ghost use Rattle.blocks.specs.Field.{step, steps, times};
+ghost use Rattle.blocks.specs.Gf128.{num, timesX, jump as jumpOf, product, power as powerOf};
+ghost use Rattle.blocks.specs.Spread.{spread, spreadBytes};
+
+// A block times x: each byte takes the top bit of the next, and the bit that falls out selects 87.
+pub fn times_x(b: [u8; 16]) -> [u8; 16]
+    ensures { λ r. ⌜ r ≡ timesX b ⌝ }
+{
+    let mut r = [0u8; 16];
+    for i in 0..15 {
+        r[i] = ((b[i] & 0x7f) << 1) | (b[i + 1] >> 7);
+    }
+    r[15] = (b[15] << 1) ^ ((b[0] >> 7) * 0x87);
+    r
+}
+
+// ---- the product of two blocks, the first one's bits from the top
+
+// x r, and b added where the bit is set.
+fn take_bit(r: [u8; 16], bit: u8, b: [u8; 16]) -> [u8; 16]
+    requires { ⌜ bit < 2 ⌝ }
+    ensures { λ q. ⌜ num q ≡ bitXor (bit * num b) (step 127 0x87 (num r)) ⌝ }
+{
+    let t = times_x(r);
+    if bit == 0 { t } else { crate::block::xor(b, t) }
+}
+
+// x^8 r, and b times the byte v added.
+fn take_byte(r: [u8; 16], v: u8, b: [u8; 16]) -> [u8; 16]
+    ensures { λ q. ⌜ num q ≡ bitXor (times 127 0x87 8 v (num b)) (steps 127 0x87 8 (num r)) ⌝ }
+{
+    let r1 = take_bit(r, v / 128, b);
+    let r2 = take_bit(r1, v / 64 % 2, b);
+    let r3 = take_bit(r2, v / 32 % 2, b);
+    let r4 = take_bit(r3, v / 16 % 2, b);
+    let r5 = take_bit(r4, v / 8 % 2, b);
+    let r6 = take_bit(r5, v / 4 % 2, b);
+    let r7 = take_bit(r6, v / 2 % 2, b);
+    take_bit(r7, v % 2, b)
+}
+
+pub fn multiply(a: [u8; 16], b: [u8; 16]) -> [u8; 16]
+    ensures { λ r. ⌜ r ≡ product a b ⌝ }
+{
+    let mut r = [0u8; 16];
+    for i in 0..16 {
+        let t = take_byte(r, a[i], b);
+        r = t;
+    }
+    r
+}
+
+// ---- squares: the bits moved apart, then reduced
+
+// The four bits of x at the even places of a byte.
+fn spread_four(x: u8) -> u8
+    requires { ⌜ x < 16 ⌝ }
+    ensures { λ r. ⌜ r ≡ spread 4 x ⌝ }
+{
+    x % 2 + x / 2 % 2 * 4 + x / 4 % 2 * 16 + x / 8 * 64
+}
+
+// The bits of eight bytes of b, moved apart.
+fn spread_half(b: [u8; 16], from: usize) -> [u8; 16]
+    requires { ⌜ from ≤ 8 ⌝ }
+    ensures { λ r. ⌜ r ≡ spreadBytes (take 8 (drop from b)) ⌝ }
+{
+    let mut r = [0u8; 16];
+    let mut i: usize = 0;
+    while i < 8 {
+        let x = b[from + i];
+        r[i * 2] = spread_four(x / 16);
+        r[i * 2 + 1] = spread_four(x % 16);
+        i += 1;
+    }
+    r
+}
+
+// h x^128 + l, where x^128 is x^7 + x^2 + x + 1.
+fn reduce(h: [u8; 16], l: [u8; 16]) -> [u8; 16]
+    ensures { λ r. ⌜ num r ≡ bitXor (num l) (steps 127 0x87 128 (num h)) ⌝ }
+{
+    let h1 = times_x(h);
+    let h2 = times_x(h1);
+    let h3 = times_x(h2);
+    let h4 = times_x(h3);
+    let h5 = times_x(h4);
+    let h6 = times_x(h5);
+    let h7 = times_x(h6);
+    let a = crate::block::xor(h2, h7);
+    let b = crate::block::xor(h1, a);
+    let c = crate::block::xor(h, b);
+    crate::block::xor(l, c)
+}
+
+pub fn square(b: [u8; 16]) -> [u8; 16]
+    ensures { λ r. ⌜ r ≡ product b b ⌝ }
+{
+    let h = spread_half(b, 0);
+    let l = spread_half(b, 8);
+    reduce(h, l)
+}
+
+// ---- powers of x, by repeated squaring
+
+// The square of q, and times x where the bit is set.
+fn next_power(q: [u8; 16], bit: u32) -> [u8; 16]
+    requires { ⌜ bit < 2 ⌝ }
+    ensures { λ r. ⌜ r ≡ jumpOf bit (product q q) ⌝ }
+{
+    let s = square(q);
+    if bit == 0 { s } else { times_x(s) }
+}
+
+// x^n.
+pub fn power(n: u32) -> [u8; 16]
+    ensures { λ r. ⌜ r ≡ powerOf n ⌝ }
+{
+    if n == 0 {
+        let mut one = [0u8; 16];
+        one[15] = 1;
+        one
+    } else {
+        let q = power(n / 2);
+        next_power(q, n % 2)
+    }
+}
+
+// The block b, multiplied by x n times: one product, with x^n.
+pub fn jump(b: [u8; 16], n: u32) -> [u8; 16]
+    ensures { λ r. ⌜ r ≡ jumpOf n b ⌝ }
+{
+    let p = power(n);
+    multiply(p, b)
+}
