@@ -1,16 +1,15 @@
--- How the code writes a state: by tables, a column at a time, with a round key added.
+-- How the code writes a state: a round key added, and a column at a time.
 use mathlib.Core.Path.{_≡_, refl, sym, ap, ap₂, _∙_}
 use mathlib.Core.List.{List, []}
 use Prim.Native.Nat.{ℕ, _+_, _*_, _/_, _%_, _≤_, _<_}
 use native.Mathlib.Omega.{arith}
 use lib.Bits.{bitXor}
 use lib.ListN.{length, getD, set, take, drop, length-take, length-drop}
-use Rattle.blocks.specs.Bytes.{Block, xorBytes, blocks}
+use Rattle.blocks.specs.Bytes.{xorBytes, blocks}
 use Rattle.blocks.specs.Tab.{tab}
 use Rattle.blocks.proofs.Chunks.{getD-blocks, block-byte}
 use Rattle.blocks.proofs.Tab.{length-tab, getD-tab, tab-ext, tab-xor, filled, fill-more}
-use Rattle.aes.specs.State.{below}
-use Rattle.aes.specs.Table.{Tabulates}
+use Rattle.fips197.specs.State.{below}
 
 -- ---- a round key
 
@@ -25,15 +24,6 @@ add-key keys n f s e h l g =
     let lk : length k ≡ 16 = ap length (getD-blocks 11 n keys h) ∙ simp (length-take, length-drop) (omega arith) in
     tab-ext 16 (keyed keys n f) (λ i. bitXor (getD s i 0) (getD k i 0)) (λ i j. ap₂ bitXor (g i j) (sym (block-byte 11 n i keys h j)))
     ∙ tab-xor 16 s k l lk
-
--- ---- a table, at bytes that are moved
-
--- a function of the byte that comes to index i, after a function of each byte
-pub looked-up : (table s : List ℕ) (f : ℕ → ℕ) (from : ℕ → ℕ) → Tabulates table f → Block s → ((i : ℕ) → i < 16 → from i < 16)
-    → tab 16 (λ i. getD table (getD s (from i) 0) 0) ≡ tab 16 (λ i. getD (tab 16 (λ i. f (getD s i 0))) (from i) 0)
-looked-up table s f from t b h =
-    tab-ext 16 (λ i. getD table (getD s (from i) 0) 0) (λ i. getD (tab 16 (λ i. f (getD s i 0))) (from i) 0)
-    (λ i l. t .at (getD s (from i) 0) (b .bytes (from i)) ∙ sym (getD-tab 16 (from i) (λ i. f (getD s i 0)) (h i l)))
 
 -- ---- a column at a time
 

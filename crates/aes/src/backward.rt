@@ -5,8 +5,8 @@ ghost use Prim.Native.Nat.{_<_, _≤_};
 ghost use lib.ListN.{length, getD};
 ghost use lib.Seq.{slice};
 ghost use Rattle.blocks.specs.Bytes.{blocks};
-ghost use Rattle.aes.specs.Sbox.{invSbox};
-ghost use Rattle.aes.specs.Cipher.{invRound, invRounds, invFirstHalf, invSecondHalf};
+ghost use Rattle.fips197.specs.Sbox.{invSbox};
+ghost use Rattle.fips197.specs.Cipher.{invRound, invRounds, invFirstHalf, invSecondHalf};
 ghost use Rattle.aes.specs.Table.{Tabulates};
 
 fn inv_round(s: [u8; 16], keys: &[u8; 176], n: usize, inv_sbox: &[u8; 256]) -> [u8; 16]

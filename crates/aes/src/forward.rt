@@ -5,8 +5,8 @@ ghost use Prim.Native.Nat.{_<_, _≤_};
 ghost use lib.ListN.{length, getD};
 ghost use lib.Seq.{slice};
 ghost use Rattle.blocks.specs.Bytes.{blocks};
-ghost use Rattle.aes.specs.Sbox.{sbox as sboxOf};
-ghost use Rattle.aes.specs.Cipher.{round as roundOf, rounds as roundsOf, firstHalf, secondHalf};
+ghost use Rattle.fips197.specs.Sbox.{sbox as sboxOf};
+ghost use Rattle.fips197.specs.Cipher.{round as roundOf, rounds as roundsOf, firstHalf, secondHalf};
 ghost use Rattle.aes.specs.Table.{Tabulates};
 
 fn round(s: [u8; 16], keys: &[u8; 176], n: usize, sbox: &[u8; 256]) -> [u8; 16]

@@ -4,8 +4,8 @@ ghost use mathlib.Core.List.{_++_};
 ghost use Prim.Native.Nat.{_+_, _*_, _<_, _≤_};
 ghost use lib.ListN.{length, take, drop};
 ghost use Rattle.blocks.specs.Bytes.{xorBytes, zeros};
-ghost use Rattle.aes.specs.Sbox.{sbox as sboxOf};
-ghost use Rattle.aes.specs.KeyExpansion.{word, temp, keyExpansion};
+ghost use Rattle.fips197.specs.Sbox.{sbox as sboxOf};
+ghost use Rattle.fips197.specs.KeyExpansion.{word, temp, keyExpansion};
 ghost use Rattle.aes.specs.Table.{Tabulates};
 
 // The key, and zeros after it.

@@ -1,7 +1,7 @@
 // AES-128 by FIPS 197, in two halves that a mode can take apart. A caller expands the key once, borrows the tables once, and lends
 // all three to each block.
 ghost use mathlib.Core.Path.{_≡_};
-ghost use Rattle.aes.specs.Aes128.{encrypt, decrypt};
+ghost use Rattle.fips197.specs.Aes128.{encrypt, decrypt};
 
 pub mod tables; // tables.rt: the S-box, its inverse, the round constants
 pub mod key; // key.rt: the key schedule

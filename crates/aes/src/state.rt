@@ -5,9 +5,9 @@ ghost use Prim.Native.Nat.{_<_};
 ghost use lib.Bits.{bitXor};
 ghost use lib.ListN.{length, getD};
 ghost use Rattle.blocks.specs.Bytes.{blocks};
-ghost use Rattle.aes.specs.Gf256.{xtimes, gmul};
-ghost use Rattle.aes.specs.Sbox.{sbox as sboxOf, invSbox};
-ghost use Rattle.aes.specs.State.{subBytes, invSubBytes, shiftRows, invShiftRows, mix as mixOf, mixColumns, invMixColumns, addRoundKey};
+ghost use Rattle.fips197.specs.Gf256.{xtimes, gmul};
+ghost use Rattle.fips197.specs.Sbox.{sbox as sboxOf, invSbox};
+ghost use Rattle.fips197.specs.State.{subBytes, invSubBytes, shiftRows, invShiftRows, mix as mixOf, mixColumns, invMixColumns, addRoundKey};
 ghost use Rattle.aes.specs.Table.{Tabulates};
 
 // A byte times x.

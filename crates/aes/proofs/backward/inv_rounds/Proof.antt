@@ -6,8 +6,8 @@ use native.Mathlib.Omega.{arith}
 use lib.Seq.{slice}
 use Rattle.blocks.specs.Bytes.{blocks}
 use Rattle.blocks.proofs.Chunks.{length-blocks}
-use Rattle.aes.specs.Cipher.{invRounds}
-use Rattle.aes.proofs.Rounds.{invRounds-turn, invRounds-end}
+use Rattle.fips197.specs.Cipher.{invRounds}
+use Rattle.fips197.proofs.Rounds.{invRounds-turn, invRounds-end}
 use Rattle.aes.proofs.backward.inv_rounds.Statement.{statement}
 use Rattle.aes.proofs.backward.inv_rounds.Tie as tie
 

@@ -6,8 +6,8 @@ use native.Mathlib.Omega.{arith}
 use lib.Seq.{slice}
 use Rattle.blocks.specs.Bytes.{blocks}
 use Rattle.blocks.proofs.Chunks.{length-blocks}
-use Rattle.aes.specs.Cipher.{rounds}
-use Rattle.aes.proofs.Rounds.{rounds-turn, rounds-end}
+use Rattle.fips197.specs.Cipher.{rounds}
+use Rattle.fips197.proofs.Rounds.{rounds-turn, rounds-end}
 use Rattle.aes.proofs.forward.rounds.Statement.{statement}
 use Rattle.aes.proofs.forward.rounds.Tie as tie
 

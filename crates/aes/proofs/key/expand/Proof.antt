@@ -7,9 +7,9 @@ use native.Mathlib.Omega.{arith}
 use lib.ListN.{length, take, length-take}
 use lib.Seq.{take-at}
 use Rattle.blocks.specs.Bytes.{zeros}
-use Rattle.aes.specs.KeyExpansion.{keyExpansion}
-use Rattle.aes.proofs.SboxTables.{sbox-table}
-use Rattle.aes.proofs.KeyExpansion.{expanded, expanded-none, expanded-more, expanded-all, length-expanded}
+use Rattle.fips197.specs.KeyExpansion.{keyExpansion}
+use Rattle.aes.proofs.Lookup.{sbox-table}
+use Rattle.aes.proofs.Expand.{expanded, expanded-none, expanded-more, expanded-all, length-expanded}
 use Rattle.aes.proofs.key.expand.Statement.{statement}
 use Rattle.aes.proofs.key.expand.Tie as tie
 

@@ -6,7 +6,7 @@ use native.Mathlib.Omega.{arith}
 use mir.Val.{Fits}
 use mir.Syntax.{w8}
 use lib.ListN.{getD}
-use Rattle.aes.proofs.KeyExpansion.{temp-turned, temp-kept}
+use Rattle.aes.proofs.Expand.{temp-turned, temp-kept}
 use borrow.Author.Needs.{needs}
 use Rattle.aes.proofs.key.temp_word.Statement.{statement}
 use Rattle.aes.proofs.key.temp_word.Tie as tie

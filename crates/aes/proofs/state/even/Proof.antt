@@ -2,8 +2,8 @@
 use borrow.Author.Needs.{needs}
 use mathlib.Core.Path.{_≡_, ap, _∙_}
 use lib.Bits.{bitXor}
-use Rattle.aes.specs.Gf256.{xtimes}
-use Rattle.aes.proofs.Mix.{even-once}
+use Rattle.fips197.specs.Gf256.{xtimes}
+use Rattle.fips197.proofs.Mix.{even-once}
 use borrow.Author.Needs.{needs}
 use Rattle.aes.proofs.state.even.Statement.{statement}
 use Rattle.aes.proofs.state.even.Tie as tie

@@ -9,9 +9,9 @@ use lib.ListN.{getD}
 use Rattle.blocks.specs.Bytes.{Block}
 use Rattle.blocks.proofs.Array.{block-by}
 use Rattle.blocks.proofs.Tab.{filled, fill-none, fill-all}
-use Rattle.aes.specs.Gf256.{gmul}
-use Rattle.aes.specs.State.{below, mix, invMix, invMixColumns}
-use Rattle.aes.proofs.Mix.{invMix-by}
+use Rattle.fips197.specs.Gf256.{gmul}
+use Rattle.fips197.specs.State.{below, mix, invMix, invMixColumns}
+use Rattle.fips197.proofs.Mix.{invMix-by}
 use Rattle.aes.proofs.Columns.{column-stored, column-0, column-1, column-2, column-3}
 use Rattle.aes.proofs.state.inv_mix_columns.Statement.{statement}
 use Rattle.aes.proofs.state.inv_mix_columns.Tie as tie

@@ -8,9 +8,9 @@ use lib.ListN.{getD}
 use Rattle.blocks.specs.Bytes.{Block}
 use Rattle.blocks.proofs.Array.{block-by}
 use Rattle.blocks.proofs.Tab.{filled, fill-none, fill-more, fill-all}
-use Rattle.aes.specs.Sbox.{invSbox}
-use Rattle.aes.specs.State.{invSubBytes, invShiftRows}
-use Rattle.aes.proofs.Columns.{looked-up}
+use Rattle.fips197.specs.Sbox.{invSbox}
+use Rattle.fips197.specs.State.{invSubBytes, invShiftRows}
+use Rattle.aes.proofs.Lookup.{looked-up}
 use Rattle.aes.proofs.state.inv_shift_sub.Statement.{statement}
 use Rattle.aes.proofs.state.inv_shift_sub.Tie as tie
 

@@ -3,7 +3,7 @@ use borrow.Author.Needs.{needs}
 use mathlib.Core.Path.{_≡_, ap, _∙_}
 use Prim.Native.Nat.{ℕ}
 use lib.Bits.{bitXor}
-use Rattle.aes.proofs.Mix.{mix-once}
+use Rattle.fips197.proofs.Mix.{mix-once}
 use borrow.Author.Needs.{needs}
 use Rattle.aes.proofs.state.mix.Statement.{statement}
 use Rattle.aes.proofs.state.mix.Tie as tie

@@ -5,7 +5,7 @@ use mathlib.Core.List.{List}
 use Prim.Native.Nat.{ℕ, _≤_, _<_, _+_, _-_, _%_}
 use native.Mathlib.Omega.{arith}
 use Rattle.blocks.proofs.Tab.{filled, fill-none, fill-all}
-use Rattle.aes.specs.State.{below, mix, mixColumns}
+use Rattle.fips197.specs.State.{below, mix, mixColumns}
 use Rattle.aes.proofs.Columns.{column-stored, column-0, column-1, column-2, column-3}
 use Rattle.aes.proofs.state.mix_columns.Statement.{statement}
 use Rattle.aes.proofs.state.mix_columns.Tie as tie

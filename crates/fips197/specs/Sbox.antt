@@ -1,7 +1,7 @@
 -- FIPS 197, 5.1.1 and 5.3.2: the S-box and its inverse by their rule.
 use Prim.Native.Nat.{ℕ, _+_, _*_, _/_, _%_, _^_}
 use lib.Bits.{bitXor}
-use Rattle.aes.specs.Gf256.{inverse}
+use Rattle.fips197.specs.Gf256.{inverse}
 
 abbrev pub bit : ℕ → ℕ → ℕ
 bit b i = b / 2 ^ i % 2

@@ -10,9 +10,9 @@ use lib.Seq.{slice, slice-empty, slice-cons, take-take, length-take-le, drop-app
 use Rattle.blocks.specs.Bytes.{Block, Blocks, none, more, xorBytes}
 use Rattle.blocks.proofs.XorBytes.{block-xor}
 use Rattle.blocks.proofs.Chunks.{block-at, blocks-slice}
-use Rattle.aes.specs.State.{subBytes, invSubBytes, shiftRows, invShiftRows, mixColumns, invMixColumns}
-use Rattle.aes.specs.Cipher.{roundKey, round, lastRound, invRound, invLastRound, rounds, invRounds, afterRound, cipher, invFrom, invCipher, firstHalf, secondHalf, invFirstHalf, invSecondHalf}
-use Rattle.aes.proofs.Steps.{block-sub, block-invSub, block-shift, block-invShift, block-mix, block-invMix, sub-undone, sub-redone, shift-undone, shift-redone, mix-undone, mix-redone, add-undone}
+use Rattle.fips197.specs.State.{subBytes, invSubBytes, shiftRows, invShiftRows, mixColumns, invMixColumns}
+use Rattle.fips197.specs.Cipher.{roundKey, round, lastRound, invRound, invLastRound, rounds, invRounds, afterRound, cipher, invFrom, invCipher, firstHalf, secondHalf, invFirstHalf, invSecondHalf}
+use Rattle.fips197.proofs.Steps.{block-sub, block-invSub, block-shift, block-invShift, block-mix, block-invMix, sub-undone, sub-redone, shift-undone, shift-redone, mix-undone, mix-redone, add-undone}
 
 -- ---- one round
 

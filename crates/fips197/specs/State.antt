@@ -6,8 +6,8 @@ use lib.Bits.{bitXor}
 use lib.ListN.{getD}
 use Rattle.blocks.specs.Bytes.{xorBytes}
 use Rattle.blocks.specs.Tab.{tab}
-use Rattle.aes.specs.Gf256.{gmul}
-use Rattle.aes.specs.Sbox.{sbox, invSbox}
+use Rattle.fips197.specs.Gf256.{gmul}
+use Rattle.fips197.specs.Sbox.{sbox, invSbox}
 
 -- 5.1.1, SUBBYTES(), and 5.3.2, INVSUBBYTES()
 unfoldable pub subBytes : List ℕ → List ℕ

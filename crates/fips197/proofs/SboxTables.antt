@@ -8,10 +8,9 @@ use lib.Dec.{lit<}
 use lib.ListN.{getD}
 use Rattle.blocks.specs.Field.{step, times, mul}
 use Rattle.blocks.proofs.Test.{equal-below, less-below}
-use Rattle.aes.specs.Gf256.{gmul, inverse}
-use Rattle.aes.specs.Sbox.{affine, invAffine, sbox, invSbox}
-use Rattle.aes.specs.Table.{Tabulates}
-use Rattle.aes.proofs.Gf256.{squarings, inverse-by}
+use Rattle.fips197.specs.Gf256.{gmul, inverse}
+use Rattle.fips197.specs.Sbox.{affine, invAffine, sbox, invSbox}
+use Rattle.fips197.proofs.Gf256.{squarings, inverse-by}
 
 -- the field's inverses
 abbrev inverses : List ℕ
@@ -33,7 +32,7 @@ inverses =
     177 ∷ 13 ∷ 214 ∷ 235 ∷ 198 ∷ 14 ∷ 207 ∷ 173 ∷ 8 ∷ 78 ∷ 215 ∷ 227 ∷ 93 ∷ 80 ∷ 30 ∷ 179 ∷
     91 ∷ 35 ∷ 56 ∷ 52 ∷ 104 ∷ 70 ∷ 3 ∷ 140 ∷ 221 ∷ 156 ∷ 125 ∷ 160 ∷ 205 ∷ 26 ∷ 65 ∷ 28 ∷ []
 
--- the code's two tables
+-- FIPS 197, 5.1.1, Table 4, and 5.3.2, Table 6
 abbrev pub sboxTable : List ℕ
 sboxTable =
     99 ∷ 124 ∷ 119 ∷ 123 ∷ 242 ∷ 107 ∷ 111 ∷ 197 ∷ 48 ∷ 1 ∷ 103 ∷ 43 ∷ 254 ∷ 215 ∷ 171 ∷ 118 ∷
@@ -127,12 +126,6 @@ sbox-at k h = affine-test k h ∙ ap affine (sym (inverse-at k h))
 pub invSbox-at : (k : ℕ) → k < 256 → getD invSboxTable k 0 ≡ invSbox k
 unfolding invSbox
 invSbox-at k h = invAffine-test k h ∙ sym (inverse-at (invAffine k) (invAffine-lt k h))
-
-pub sbox-table : Tabulates sboxTable sbox
-sbox-table = record { at = sbox-at }
-
-pub invSbox-table : Tabulates invSboxTable invSbox
-invSbox-table = record { at = invSbox-at }
 
 -- ---- the S-box and its inverse undo each other
 

@@ -9,9 +9,9 @@ use Rattle.blocks.specs.Field.{step, times, mul}
 use Rattle.blocks.proofs.Test.{all}
 use Rattle.blocks.proofs.Xor.{xor-assoc, xor-swap, xor8}
 use Rattle.blocks.proofs.Linear.{Linear, linear-same, linear-none, linear-xor, linear-of, by-test}
-use Rattle.aes.specs.Gf256.{xtimes, gmul}
-use Rattle.aes.specs.State.{sum4, mix, invMix}
-use Rattle.aes.proofs.Gf256.{xtimes-linear, gmul-linear, gmul-lt}
+use Rattle.fips197.specs.Gf256.{xtimes, gmul}
+use Rattle.fips197.specs.State.{sum4, mix, invMix}
+use Rattle.fips197.proofs.Gf256.{xtimes-linear, gmul-linear, gmul-lt}
 
 -- ---- sums of four
 

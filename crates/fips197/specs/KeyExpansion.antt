@@ -7,7 +7,7 @@ use lib.ListN.{getD}
 use Rattle.blocks.specs.Bytes.{xorBytes, blocks}
 use Rattle.blocks.specs.Field.{steps}
 use Rattle.blocks.specs.Tab.{tab}
-use Rattle.aes.specs.Sbox.{sbox}
+use Rattle.fips197.specs.Sbox.{sbox}
 
 -- word i of w
 unfoldable pub word : List ℕ → ℕ → List ℕ

@@ -7,11 +7,11 @@ use lib.Dec.{lit<, lit≤}
 use lib.ListN.{length}
 use Rattle.blocks.specs.Bytes.{Block, Blocks, blocks}
 use Rattle.blocks.proofs.Chunks.{length-blocks}
-use Rattle.aes.specs.KeyExpansion.{keyExpansion, roundKeys}
-use Rattle.aes.specs.Cipher as C
-use Rattle.aes.specs.Aes128.{keys, firstHalf, secondHalf, invFirstHalf, invSecondHalf, encrypt, decrypt}
-use Rattle.aes.proofs.Rounds as R
-use Rattle.aes.proofs.KeyExpansion.{blocks-roundKeys}
+use Rattle.fips197.specs.KeyExpansion.{keyExpansion, roundKeys}
+use Rattle.fips197.specs.Cipher as C
+use Rattle.fips197.specs.Aes128.{keys, firstHalf, secondHalf, invFirstHalf, invSecondHalf, encrypt, decrypt}
+use Rattle.fips197.proofs.Rounds as R
+use Rattle.fips197.proofs.KeyExpansion.{blocks-roundKeys}
 
 eleven : (key : List ℕ) → 10 < length (keys key)
 unfolding keys roundKeys

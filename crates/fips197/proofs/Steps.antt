@@ -7,11 +7,11 @@ use Rattle.blocks.specs.Bytes.{Block, xorBytes}
 use Rattle.blocks.specs.Tab.{tab}
 use Rattle.blocks.proofs.XorBytes.{block-xor, xorBytes-cancel}
 use Rattle.blocks.proofs.Tab.{getD-tab, tab-ext, tab-self, block-tab}
-use Rattle.aes.specs.Sbox.{sbox, invSbox}
-use Rattle.aes.specs.State.{subBytes, invSubBytes, shiftRows, invShiftRows, below, mix, invMix, mixColumns, invMixColumns, sum4}
-use Rattle.aes.proofs.Gf256.{gmul-lt}
-use Rattle.aes.proofs.SboxTables.{sbox-lt, invSbox-lt, invSbox-sbox, sbox-invSbox}
-use Rattle.aes.proofs.Mix.{sum4-lt, invMix-mix, mix-invMix}
+use Rattle.fips197.specs.Sbox.{sbox, invSbox}
+use Rattle.fips197.specs.State.{subBytes, invSubBytes, shiftRows, invShiftRows, below, mix, invMix, mixColumns, invMixColumns, sum4}
+use Rattle.fips197.proofs.Gf256.{gmul-lt}
+use Rattle.fips197.proofs.SboxTables.{sbox-lt, invSbox-lt, invSbox-sbox, sbox-invSbox}
+use Rattle.fips197.proofs.Mix.{sum4-lt, invMix-mix, mix-invMix}
 
 -- ---- a function at each byte
 

@@ -6,7 +6,7 @@ use lib.Dec.{lit<}
 use Rattle.blocks.specs.Field.{step, mul}
 use Rattle.blocks.proofs.Linear.{Linear}
 use Rattle.blocks.proofs.Field.{step-linear, step-lt, mul-lt, mul-left, mul-right, mul-comm, mul-one, mul-assoc}
-use Rattle.aes.specs.Gf256.{xtimes, gmul, power, inverse}
+use Rattle.fips197.specs.Gf256.{xtimes, gmul, power, inverse}
 
 poly-lt : 0x1b < 256
 poly-lt = lit< tt

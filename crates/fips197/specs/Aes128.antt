@@ -2,8 +2,8 @@
 -- middletext; the second half is rounds 6 to 10. Each takes the key, then the block.
 use mathlib.Core.List.{List}
 use Prim.Native.Nat.{ℕ}
-use Rattle.aes.specs.KeyExpansion.{roundKeys}
-use Rattle.aes.specs.Cipher as C
+use Rattle.fips197.specs.KeyExpansion.{roundKeys}
+use Rattle.fips197.specs.Cipher as C
 
 unfoldable pub keys : List ℕ → List (List ℕ)
 keys key = roundKeys 4 10 key
