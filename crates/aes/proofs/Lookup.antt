@@ -22,4 +22,3 @@ pub looked-up : (table s : List ℕ) (f : ℕ → ℕ) (from : ℕ → ℕ) → 
 looked-up table s f from t b h =
     tab-ext 16 (λ i. getD table (getD s (from i) 0) 0) (λ i. getD (tab 16 (λ i. f (getD s i 0))) (from i) 0)
     (λ i l. t .at (getD s (from i) 0) (b .bytes (from i)) ∙ sym (getD-tab 16 (from i) (λ i. f (getD s i 0)) (h i l)))
-

@@ -8,6 +8,9 @@ ghost use Rattle.fips197.specs.Sbox.{sbox as sboxOf};
 ghost use Rattle.fips197.specs.KeyExpansion.{word, temp, keyExpansion};
 ghost use Rattle.aes.specs.Table.{Tabulates};
 
+// The round constants, by the round of the schedule, from 0.
+const ROUND_CONSTANTS: [u8; 10] = [0x01, 0x02, 0x04, 0x08, 0x10, 0x20, 0x40, 0x80, 0x1b, 0x36];
+
 // The key, and zeros after it.
 fn first_words(key: [u8; 16]) -> [u8; 176]
     ensures { λ r. ⌜ r ≡ key ++ zeros 160 ⌝ }
@@ -55,7 +58,7 @@ fn temp_word(t: [u8; 4], i: usize, sbox: &[u8; 256]) -> [u8; 4]
     if i % 4 == 0 {
         let round = i / 4 - 1;
         [
-            sbox[t[1] as usize] ^ crate::tables::ROUND_CONSTANTS[round],
+            sbox[t[1] as usize] ^ ROUND_CONSTANTS[round],
             sbox[t[2] as usize],
             sbox[t[3] as usize],
             sbox[t[0] as usize],
@@ -69,7 +72,7 @@ fn temp_word(t: [u8; 4], i: usize, sbox: &[u8; 256]) -> [u8; 4]
 pub fn expand(key: [u8; 16]) -> [u8; 176]
     ensures { λ r. ⌜ r ≡ keyExpansion 4 10 key ⌝ }
 {
-    let sbox = &crate::tables::SBOX;
+    let sbox = &crate::sbox::SBOX;
     let mut w = first_words(key);
     let mut n: usize = 0;
     while n < 40 {

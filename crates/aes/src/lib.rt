@@ -3,7 +3,8 @@
 ghost use mathlib.Core.Path.{_≡_};
 ghost use Rattle.fips197.specs.Aes128.{encrypt, decrypt};
 
-pub mod tables; // tables.rt: the S-box, its inverse, the round constants
+pub mod sbox; // sbox.rt: the S-box
+pub mod inv_sbox; // inv_sbox.rt: its inverse
 pub mod key; // key.rt: the key schedule
 pub mod state; // state.rt: the steps of a round
 pub mod forward; // forward.rt: rounds, and the two halves
@@ -13,7 +14,7 @@ pub mod backward; // backward.rt: the same undone
 pub fn encrypt_block(key: [u8; 16], block: [u8; 16]) -> [u8; 16]
     ensures { λ r. ⌜ r ≡ encrypt key block ⌝ }
 {
-    let sbox = &tables::SBOX;
+    let sbox = &crate::sbox::SBOX;
     let keys = key::expand(key);
     let middle = forward::first_half(block, &keys, sbox);
     forward::second_half(middle, &keys, sbox)
@@ -22,7 +23,7 @@ pub fn encrypt_block(key: [u8; 16], block: [u8; 16]) -> [u8; 16]
 pub fn decrypt_block(key: [u8; 16], block: [u8; 16]) -> [u8; 16]
     ensures { λ r. ⌜ r ≡ decrypt key block ⌝ }
 {
-    let inv_sbox = &tables::INV_SBOX;
+    let inv_sbox = &crate::inv_sbox::INV_SBOX;
     let keys = key::expand(key);
     let middle = backward::inv_second_half(block, &keys, inv_sbox);
     backward::inv_first_half(middle, &keys, inv_sbox)

@@ -21,8 +21,8 @@ pub fn equal(a: [u8; 16], b: [u8; 16]) -> bool
     ensures { λ r. ⌜ r ≡ same a b ⌝ }
 {
     let mut difference: u8 = 0;
-    for i in 0..16 {
-        difference = difference | (a[i] ^ b[i]);
+    for byte in 0..16 {
+        difference = difference | (a[byte] ^ b[byte]);
     }
     difference == 0
 }

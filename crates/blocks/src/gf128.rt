@@ -14,7 +14,8 @@ pub fn times_x(b: [u8; 16]) -> [u8; 16]
 {
     let mut r = [0u8; 16];
     for i in 0..15 {
-        r[i] = ((b[i] & 0x7f) << 1) | (b[i + 1] >> 7);
+        let next = i + 1;
+        r[i] = ((b[i] & 0x7f) << 1) | (b[next] >> 7);
     }
     r[15] = (b[15] << 1) ^ ((b[0] >> 7) * 0x87);
     r

@@ -49,7 +49,7 @@ cast-r : tie.Need-cast-r Inv-loop μ-loop
 cast-r c = search needs
 
 element-copy-out-r : tie.Need-element-copy-out-r Inv-loop μ-loop
-element-copy-out-r c = block (c .before .before) .bytes (from (c .before .loop .i))
+element-copy-out-r c = block (c .before .before) .bytes _
 
 array-write-r : tie.Need-array-write-r Inv-loop μ-loop
 array-write-r c = search needs

@@ -27,8 +27,8 @@ array-read-difference c = search needs
 array-read-difference-2 : tie.Need-array-read-difference-2 Inv-loop μ-loop
 array-read-difference-2 c = search needs
 
-add-i : tie.Need-add-i Inv-loop μ-loop
-add-i c = search needs
+add-byte : tie.Need-add-byte Inv-loop μ-loop
+add-byte c = search needs
 
 loop-less : tie.Need-loop-less Inv-loop μ-loop
 loop-less c = search needs
@@ -40,7 +40,7 @@ loop-again c = (omega arith, rw (add-one, c .before .loop .inv .1))
 returns : tie.Need-returns Inv-loop μ-loop
 returns c =
     let s = c .before .before in
-    let done : c .before .loop .i ≡ 16 = omega arith in
+    let done : c .before .loop .byte ≡ 16 = omega arith in
     ap (λ (d : ℕ). eqb d 0) (c .before .loop .inv .1 ∙ ap (difference (s .args .t1) (s .args .t2)) done)
     ∙ same-by 16 (s .args .t1) (s .args .t2) (search needs) (search needs)
 
@@ -53,7 +53,7 @@ equal-spec =
     loop-holds
     array-read-difference
     array-read-difference-2
-    add-i
+    add-byte
     loop-less
     loop-again
     returns)

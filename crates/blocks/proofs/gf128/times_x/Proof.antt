@@ -31,8 +31,8 @@ loop-holds c = (search needs, fill-none 16 _)
 array-read-r : tie.Need-array-read-r Inv-loop μ-loop
 array-read-r c = search needs
 
-add-r : tie.Need-add-r Inv-loop μ-loop
-add-r c = search needs
+add-next : tie.Need-add-next Inv-loop μ-loop
+add-next c = search needs
 
 array-read-r-2 : tie.Need-array-read-r-2 Inv-loop μ-loop
 array-read-r-2 c = search needs
@@ -77,8 +77,8 @@ times-x-spec =
     Inv-loop
     μ-loop
     loop-holds
+    add-next
     array-read-r
-    add-r
     array-read-r-2
     array-write-r
     add-i
