@@ -5,7 +5,7 @@ use Prim.Native.Nat.{ℕ, _+_, _*_, _/_, _%_, _≤_, _<_}
 use native.Mathlib.Omega.{arith}
 use lib.Bits.{bitXor}
 use lib.ListN.{length, getD, set, take, drop, length-take, length-drop}
-use Rattle.blocks.specs.Bytes.{xorBytes, blocks}
+use Rattle.blocks.specs.Bytes.{xorBytes, firstBlocks}
 use Rattle.blocks.specs.Tab.{tab}
 use Rattle.blocks.proofs.Chunks.{getD-blocks, block-byte}
 use Rattle.blocks.proofs.Tab.{length-tab, getD-tab, tab-ext, tab-xor, filled, fill-more}
@@ -18,9 +18,9 @@ abbrev pub keyed : List ℕ → ℕ → (ℕ → ℕ) → ℕ → ℕ
 keyed keys n f i = bitXor (f i) (getD keys (n * 16 + i) 0)
 
 pub add-key : (keys : List ℕ) (n : ℕ) (f : ℕ → ℕ) (s : List ℕ) → length keys ≡ 176 → n < 11 → length s ≡ 16 → ((i : ℕ) → i < 16 → f i ≡ getD s i 0)
-    → tab 16 (keyed keys n f) ≡ xorBytes s (getD (blocks 11 keys) n [])
+    → tab 16 (keyed keys n f) ≡ xorBytes s (getD (firstBlocks 11 keys) n [])
 add-key keys n f s e h l g =
-    let k = getD (blocks 11 keys) n [] in
+    let k = getD (firstBlocks 11 keys) n [] in
     let lk : length k ≡ 16 = ap length (getD-blocks 11 n keys h) ∙ simp (length-take, length-drop) (omega arith) in
     tab-ext 16 (keyed keys n f) (λ i. bitXor (getD s i 0) (getD k i 0)) (λ i j. ap₂ bitXor (g i j) (sym (block-byte 11 n i keys h j)))
     ∙ tab-xor 16 s k l lk

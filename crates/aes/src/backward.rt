@@ -4,7 +4,7 @@ ghost use mathlib.Core.List.{[]};
 ghost use Prim.Native.Nat.{_<_, _≤_};
 ghost use lib.ListN.{length, getD};
 ghost use lib.Seq.{slice};
-ghost use Rattle.blocks.specs.Bytes.{blocks};
+ghost use Rattle.blocks.specs.Bytes.{firstBlocks};
 ghost use Rattle.fips197.specs.Sbox.{invSbox};
 ghost use Rattle.fips197.specs.Cipher.{invRound, invRounds, invFirstHalf, invSecondHalf};
 ghost use Rattle.aes.specs.Table.{Tabulates};
@@ -13,7 +13,7 @@ fn inv_round(s: [u8; 16], keys: &[u8; 176], n: usize, inv_sbox: &[u8; 256]) -> [
     requires { ⌜ length (now keys) ≡ 176 ⌝ }
     requires { ⌜ n < 11 ⌝ }
     requires { ⌜ Tabulates (now «inv_sbox») invSbox ⌝ }
-    ensures { λ r. ⌜ r ≡ invRound s (getD (blocks 11 (now (keys .entry))) n []) ⌝ }
+    ensures { λ r. ⌜ r ≡ invRound s (getD (firstBlocks 11 (now (keys .entry))) n []) ⌝ }
 {
     let a = crate::state::add_round_key(s, keys, n);
     let b = crate::state::inv_mix_columns(a);
@@ -32,7 +32,7 @@ fn inv_rounds(
     requires { ⌜ from ≤ to ⌝ }
     requires { ⌜ to ≤ 11 ⌝ }
     requires { ⌜ Tabulates (now «inv_sbox») invSbox ⌝ }
-    ensures { λ r. ⌜ r ≡ invRounds (slice from to (blocks 11 (now (keys .entry)))) s ⌝ }
+    ensures { λ r. ⌜ r ≡ invRounds (slice from to (firstBlocks 11 (now (keys .entry)))) s ⌝ }
 {
     let mut t = s;
     let mut i = to;
@@ -48,7 +48,7 @@ fn inv_rounds(
 pub fn inv_first_half(s: [u8; 16], keys: &[u8; 176], inv_sbox: &[u8; 256]) -> [u8; 16]
     requires { ⌜ length (now keys) ≡ 176 ⌝ }
     requires { ⌜ Tabulates (now «inv_sbox») invSbox ⌝ }
-    ensures { λ r. ⌜ r ≡ invFirstHalf 5 (blocks 11 (now (keys .entry))) s ⌝ }
+    ensures { λ r. ⌜ r ≡ invFirstHalf 5 (firstBlocks 11 (now (keys .entry))) s ⌝ }
 {
     let t = inv_rounds(s, keys, 1, 6, inv_sbox);
     crate::state::add_round_key(t, keys, 0)
@@ -58,7 +58,7 @@ pub fn inv_first_half(s: [u8; 16], keys: &[u8; 176], inv_sbox: &[u8; 256]) -> [u
 pub fn inv_second_half(s: [u8; 16], keys: &[u8; 176], inv_sbox: &[u8; 256]) -> [u8; 16]
     requires { ⌜ length (now keys) ≡ 176 ⌝ }
     requires { ⌜ Tabulates (now «inv_sbox») invSbox ⌝ }
-    ensures { λ r. ⌜ r ≡ invSecondHalf 5 10 (blocks 11 (now (keys .entry))) s ⌝ }
+    ensures { λ r. ⌜ r ≡ invSecondHalf 5 10 (firstBlocks 11 (now (keys .entry))) s ⌝ }
 {
     let t = crate::state::add_round_key(s, keys, 10);
     let u = crate::state::inv_shift_sub(t, inv_sbox);

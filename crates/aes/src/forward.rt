@@ -4,7 +4,7 @@ ghost use mathlib.Core.List.{[]};
 ghost use Prim.Native.Nat.{_<_, _≤_};
 ghost use lib.ListN.{length, getD};
 ghost use lib.Seq.{slice};
-ghost use Rattle.blocks.specs.Bytes.{blocks};
+ghost use Rattle.blocks.specs.Bytes.{firstBlocks};
 ghost use Rattle.fips197.specs.Sbox.{sbox as sboxOf};
 ghost use Rattle.fips197.specs.Cipher.{round as roundOf, rounds as roundsOf, firstHalf, secondHalf};
 ghost use Rattle.aes.specs.Table.{Tabulates};
@@ -13,7 +13,7 @@ fn round(s: [u8; 16], keys: &[u8; 176], n: usize, sbox: &[u8; 256]) -> [u8; 16]
     requires { ⌜ length (now keys) ≡ 176 ⌝ }
     requires { ⌜ n < 11 ⌝ }
     requires { ⌜ Tabulates (now sbox) sboxOf ⌝ }
-    ensures { λ r. ⌜ r ≡ roundOf s (getD (blocks 11 (now (keys .entry))) n []) ⌝ }
+    ensures { λ r. ⌜ r ≡ roundOf s (getD (firstBlocks 11 (now (keys .entry))) n []) ⌝ }
 {
     let a = crate::state::sub_shift(s, sbox);
     let b = crate::state::mix_columns(a);
@@ -26,7 +26,7 @@ fn rounds(s: [u8; 16], keys: &[u8; 176], from: usize, to: usize, sbox: &[u8; 256
     requires { ⌜ from ≤ to ⌝ }
     requires { ⌜ to ≤ 11 ⌝ }
     requires { ⌜ Tabulates (now sbox) sboxOf ⌝ }
-    ensures { λ r. ⌜ r ≡ roundsOf (slice from to (blocks 11 (now (keys .entry)))) s ⌝ }
+    ensures { λ r. ⌜ r ≡ roundsOf (slice from to (firstBlocks 11 (now (keys .entry)))) s ⌝ }
 {
     let mut t = s;
     let mut i = from;
@@ -42,7 +42,7 @@ fn rounds(s: [u8; 16], keys: &[u8; 176], from: usize, to: usize, sbox: &[u8; 256
 pub fn first_half(s: [u8; 16], keys: &[u8; 176], sbox: &[u8; 256]) -> [u8; 16]
     requires { ⌜ length (now keys) ≡ 176 ⌝ }
     requires { ⌜ Tabulates (now sbox) sboxOf ⌝ }
-    ensures { λ r. ⌜ r ≡ firstHalf 5 (blocks 11 (now (keys .entry))) s ⌝ }
+    ensures { λ r. ⌜ r ≡ firstHalf 5 (firstBlocks 11 (now (keys .entry))) s ⌝ }
 {
     let t = crate::state::add_round_key(s, keys, 0);
     rounds(t, keys, 1, 6, sbox)
@@ -52,7 +52,7 @@ pub fn first_half(s: [u8; 16], keys: &[u8; 176], sbox: &[u8; 256]) -> [u8; 16]
 pub fn second_half(s: [u8; 16], keys: &[u8; 176], sbox: &[u8; 256]) -> [u8; 16]
     requires { ⌜ length (now keys) ≡ 176 ⌝ }
     requires { ⌜ Tabulates (now sbox) sboxOf ⌝ }
-    ensures { λ r. ⌜ r ≡ secondHalf 5 10 (blocks 11 (now (keys .entry))) s ⌝ }
+    ensures { λ r. ⌜ r ≡ secondHalf 5 10 (firstBlocks 11 (now (keys .entry))) s ⌝ }
 {
     let t = rounds(s, keys, 6, 10, sbox);
     let u = crate::state::sub_shift(t, sbox);

@@ -4,7 +4,7 @@ ghost use mathlib.Core.List.{[]};
 ghost use Prim.Native.Nat.{_<_};
 ghost use lib.Bits.{bitXor};
 ghost use lib.ListN.{length, getD};
-ghost use Rattle.blocks.specs.Bytes.{blocks};
+ghost use Rattle.blocks.specs.Bytes.{firstBlocks};
 ghost use Rattle.fips197.specs.Gf256.{xtimes, gmul};
 ghost use Rattle.fips197.specs.Sbox.{sbox as sboxOf, invSbox};
 ghost use Rattle.fips197.specs.State.{subBytes, invSubBytes, shiftRows, invShiftRows, mix as mixOf, mixColumns, invMixColumns, addRoundKey};
@@ -21,7 +21,7 @@ fn double(x: u8) -> u8
 pub fn add_round_key(s: [u8; 16], keys: &[u8; 176], n: usize) -> [u8; 16]
     requires { ⌜ length (now keys) ≡ 176 ⌝ }
     requires { ⌜ n < 11 ⌝ }
-    ensures { λ r. ⌜ r ≡ addRoundKey s (getD (blocks 11 (now (keys .entry))) n []) ⌝ }
+    ensures { λ r. ⌜ r ≡ addRoundKey s (getD (firstBlocks 11 (now (keys .entry))) n []) ⌝ }
 {
     let mut r = [0u8; 16];
     for i in 0..16 {

@@ -7,15 +7,15 @@ use native.Mathlib.Omega.{arith}
 use lib.Dec.{lit<}
 use lib.ListN.{length, getD, take, drop, length-take, length-drop}
 use lib.Seq.{slice, slice-cons, slice-empty, take-at, drop-at, take-add, drop-drop, take-nil, getD-take, getD-drop}
-use Rattle.blocks.specs.Bytes.{Bytes, Block, Blocks, none, more, blocks, joined}
+use Rattle.blocks.specs.Bytes.{Bytes, Block, Blocks, none, more, firstBlocks, concat}
 
-pub length-blocks : (n : ℕ) (a : List ℕ) → length (blocks n a) ≡ n
-unfolding blocks
+pub length-blocks : (n : ℕ) (a : List ℕ) → length (firstBlocks n a) ≡ n
+unfolding firstBlocks
 length-blocks zero a = refl
 length-blocks (suc n) a = ap suc (length-blocks n (drop 16 a))
 
-pub getD-blocks : (n i : ℕ) (a : List ℕ) → i < n → getD (blocks n a) i [] ≡ take 16 (drop (i * 16) a)
-unfolding blocks
+pub getD-blocks : (n i : ℕ) (a : List ℕ) → i < n → getD (firstBlocks n a) i [] ≡ take 16 (drop (i * 16) a)
+unfolding firstBlocks
 getD-blocks zero i a h = absurd (not-suc-le-zero h)
 getD-blocks (suc n) zero a h = refl
 getD-blocks (suc n) (suc i) a h =
@@ -23,7 +23,7 @@ getD-blocks (suc n) (suc i) a h =
     ∙ ap (take 16) (drop-drop (i * 16) 16 a ∙ ap (λ (k : ℕ). drop k a) (add-comm 16 (i * 16) ∙ sym (suc-mul i 16)))
 
 -- byte j of block i
-pub block-byte : (n i j : ℕ) (a : List ℕ) → i < n → j < 16 → getD (getD (blocks n a) i []) j 0 ≡ getD a (i * 16 + j) 0
+pub block-byte : (n i j : ℕ) (a : List ℕ) → i < n → j < 16 → getD (getD (firstBlocks n a) i []) j 0 ≡ getD a (i * 16 + j) 0
 block-byte n i j a h l =
     ap (λ (b : List ℕ). getD b j 0) (getD-blocks n i a h) ∙ getD-take 16 (drop (i * 16) a) j 0 l ∙ getD-drop (i * 16) a j 0
 
@@ -42,8 +42,8 @@ bytes-append (x ∷ a) b ha hb zero = ha 0
 bytes-append (x ∷ a) b ha hb (suc i) = bytes-append a b (λ j. ha (suc j)) hb i
 
 -- a list that is long enough gives blocks
-pub blocks-of : (n : ℕ) (a : List ℕ) → n * 16 ≤ length a → Bytes a → Blocks (blocks n a)
-unfolding blocks
+pub blocks-of : (n : ℕ) (a : List ℕ) → n * 16 ≤ length a → Bytes a → Blocks (firstBlocks n a)
+unfolding firstBlocks
 blocks-of zero a l h = none
 blocks-of (suc n) a l h =
     let e : suc n * 16 ≡ n * 16 + 16 = suc-mul n 16 in
@@ -70,19 +70,19 @@ blocks-drop (suc n) (more b h) = blocks-drop n h
 pub blocks-slice : {bs : List (List ℕ)} (from to : ℕ) → Blocks bs → Blocks (slice from to bs)
 blocks-slice from to h = blocks-drop from (blocks-take to h)
 
--- ---- cut and joined
+-- ---- cut and concat
 
-pub blocks-joined : {bs : List (List ℕ)} (rest : List ℕ) → Blocks bs → blocks (length bs) (joined bs ++ rest) ≡ bs
-unfolding blocks joined
-blocks-joined rest none = refl
-blocks-joined rest (more {b = b} {bs = bs} hb h) =
+pub blocks-concat : {bs : List (List ℕ)} (rest : List ℕ) → Blocks bs → firstBlocks (length bs) (concat bs ++ rest) ≡ bs
+unfolding firstBlocks concat
+blocks-concat rest none = refl
+blocks-concat rest (more {b = b} {bs = bs} hb h) =
     ap₂ (λ (x : List ℕ) (y : List (List ℕ)). x ∷ y)
-    (ap (take 16) (append-assoc b (joined bs) rest) ∙ take-at b (joined bs ++ rest) 16 (hb .long))
-    (ap (blocks (length bs)) (ap (drop 16) (append-assoc b (joined bs) rest) ∙ drop-at b (joined bs ++ rest) 16 (hb .long)) ∙ blocks-joined rest h)
+    (ap (take 16) (append-assoc b (concat bs) rest) ∙ take-at b (concat bs ++ rest) 16 (hb .long))
+    (ap (firstBlocks (length bs)) (ap (drop 16) (append-assoc b (concat bs) rest) ∙ drop-at b (concat bs ++ rest) 16 (hb .long)) ∙ blocks-concat rest h)
 
-pub joined-blocks : (n : ℕ) (a : List ℕ) → joined (blocks n a) ≡ take (n * 16) a
-unfolding blocks joined
-joined-blocks zero a = refl
-joined-blocks (suc n) a =
-    ap (λ (x : List ℕ). take 16 a ++ x) (joined-blocks n (drop 16 a)) ∙ sym (take-add 16 (n * 16) a)
+pub concat-blocks : (n : ℕ) (a : List ℕ) → concat (firstBlocks n a) ≡ take (n * 16) a
+unfolding firstBlocks concat
+concat-blocks zero a = refl
+concat-blocks (suc n) a =
+    ap (λ (x : List ℕ). take 16 a ++ x) (concat-blocks n (drop 16 a)) ∙ sym (take-add 16 (n * 16) a)
     ∙ ap (λ (k : ℕ). take k a) (add-comm 16 (n * 16) ∙ sym (suc-mul n 16))

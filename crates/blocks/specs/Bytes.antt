@@ -38,11 +38,11 @@ same (x ∷ a) [] = false
 same (x ∷ a) (y ∷ b) = eqb x y && same a b
 
 -- the first n blocks of a list of bytes
-unfoldable pub blocks : ℕ → List ℕ → List (List ℕ)
-blocks zero a = []
-blocks (suc n) a = take 16 a ∷ blocks n (drop 16 a)
+unfoldable pub firstBlocks : ℕ → List ℕ → List (List ℕ)
+firstBlocks zero a = []
+firstBlocks (suc n) a = take 16 a ∷ firstBlocks n (drop 16 a)
 
 -- blocks, one after another
-unfoldable pub joined : List (List ℕ) → List ℕ
-joined [] = []
-joined (b ∷ bs) = b ++ joined bs
+unfoldable pub concat : List (List ℕ) → List ℕ
+concat [] = []
+concat (b ∷ bs) = b ++ concat bs

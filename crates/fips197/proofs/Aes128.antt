@@ -5,7 +5,7 @@ use mathlib.Core.List.{List}
 use Prim.Native.Nat.{ℕ, _<_}
 use lib.Dec.{lit<, lit≤}
 use lib.ListN.{length}
-use Rattle.blocks.specs.Bytes.{Block, Blocks, blocks}
+use Rattle.blocks.specs.Bytes.{Block, Blocks, firstBlocks}
 use Rattle.blocks.proofs.Chunks.{length-blocks}
 use Rattle.fips197.specs.KeyExpansion.{keyExpansion, roundKeys}
 use Rattle.fips197.specs.Cipher as C
@@ -20,23 +20,23 @@ eleven key = rw (length-blocks 11 (keyExpansion 4 10 key)) (lit< tt)
 -- ---- what the code works out, with an expanded key, is the halves under that key
 
 module _ (key w : List ℕ) (e : w ≡ keyExpansion 4 10 key) where
-  round-keys : blocks 11 w ≡ keys key
+  round-keys : firstBlocks 11 w ≡ keys key
   unfolding keys roundKeys
-  round-keys = ap (blocks 11) e
+  round-keys = ap (firstBlocks 11) e
 
-  pub first-by : (s : List ℕ) → C.firstHalf 5 (blocks 11 w) s ≡ firstHalf key s
+  pub first-by : (s : List ℕ) → C.firstHalf 5 (firstBlocks 11 w) s ≡ firstHalf key s
   unfolding firstHalf
   first-by s = ap (λ (ks : List (List ℕ)). C.firstHalf 5 ks s) round-keys
 
-  pub second-by : (s : List ℕ) → C.secondHalf 5 10 (blocks 11 w) s ≡ secondHalf key s
+  pub second-by : (s : List ℕ) → C.secondHalf 5 10 (firstBlocks 11 w) s ≡ secondHalf key s
   unfolding secondHalf
   second-by s = ap (λ (ks : List (List ℕ)). C.secondHalf 5 10 ks s) round-keys
 
-  pub invFirst-by : (s : List ℕ) → C.invFirstHalf 5 (blocks 11 w) s ≡ invFirstHalf key s
+  pub invFirst-by : (s : List ℕ) → C.invFirstHalf 5 (firstBlocks 11 w) s ≡ invFirstHalf key s
   unfolding invFirstHalf
   invFirst-by s = ap (λ (ks : List (List ℕ)). C.invFirstHalf 5 ks s) round-keys
 
-  pub invSecond-by : (s : List ℕ) → C.invSecondHalf 5 10 (blocks 11 w) s ≡ invSecondHalf key s
+  pub invSecond-by : (s : List ℕ) → C.invSecondHalf 5 10 (firstBlocks 11 w) s ≡ invSecondHalf key s
   unfolding invSecondHalf
   invSecond-by s = ap (λ (ks : List (List ℕ)). C.invSecondHalf 5 10 ks s) round-keys
 

@@ -4,7 +4,7 @@ use mathlib.Core.List.{List, [], _∷_, _++_}
 use Prim.Native.Nat.{ℕ, zero, suc, _+_, _-_, _*_, _/_, _%_}
 use lib.Dec.{eqb, ltb}
 use lib.ListN.{getD}
-use Rattle.blocks.specs.Bytes.{xorBytes, blocks}
+use Rattle.blocks.specs.Bytes.{xorBytes, firstBlocks}
 use Rattle.blocks.specs.Field.{steps}
 use Rattle.blocks.specs.Tab.{tab}
 use Rattle.fips197.specs.Sbox.{sbox}
@@ -46,4 +46,4 @@ keyExpansion nk nr key = words nk key (4 * (nr + 1) - nk)
 
 -- four words are a round key
 unfoldable pub roundKeys : ℕ → ℕ → List ℕ → List (List ℕ)
-roundKeys nk nr key = blocks (nr + 1) (keyExpansion nk nr key)
+roundKeys nk nr key = firstBlocks (nr + 1) (keyExpansion nk nr key)

@@ -4,7 +4,7 @@ use mathlib.Core.Path.{_≡_, refl, sym, _∙_}
 use Prim.Native.Nat.{_≤_, _-_}
 use native.Mathlib.Omega.{arith}
 use lib.Seq.{slice}
-use Rattle.blocks.specs.Bytes.{blocks}
+use Rattle.blocks.specs.Bytes.{firstBlocks}
 use Rattle.blocks.proofs.Chunks.{length-blocks}
 use Rattle.fips197.specs.Cipher.{rounds}
 use Rattle.fips197.proofs.Rounds.{rounds-turn, rounds-end}
@@ -12,7 +12,7 @@ use Rattle.aes.proofs.forward.rounds.Statement.{statement}
 use Rattle.aes.proofs.forward.rounds.Tie as tie
 
 abbrev Inv-loop : tie.InvT-loop
-Inv-loop keys from to sbox t₀ i₀ t i = (i ≤ to) × (rounds (slice i to (blocks 11 keys)) t ≡ rounds (slice from to (blocks 11 keys)) t₀)
+Inv-loop keys from to sbox t₀ i₀ t i = (i ≤ to) × (rounds (slice i to (firstBlocks 11 keys)) t ≡ rounds (slice from to (firstBlocks 11 keys)) t₀)
 
 abbrev μ-loop : tie.MeasureT-loop
 μ-loop keys from to sbox t₀ i₀ t i = to - i
@@ -35,7 +35,7 @@ loop-again c =
     let a = l .before .args in
     let h : a .to ≤ 11 = search needs in (
       search needs,
-      rounds-turn (blocks 11 (a .keys .now)) (l .loop .i) (a .to) (l .loop .t) (c .round .result) (c .before .loop-test .taken) (rw (length-blocks 11 (a .keys .now)) h)
+      rounds-turn (firstBlocks 11 (a .keys .now)) (l .loop .i) (a .to) (l .loop .t) (c .round .result) (c .before .loop-test .taken) (rw (length-blocks 11 (a .keys .now)) h)
           (c .round .ensures)
           ∙ l .loop .inv .1,
     )
@@ -44,7 +44,7 @@ returns : tie.Need-returns Inv-loop μ-loop
 returns c =
     let l = c .before in
     let a = l .before .args in
-    sym (rounds-end (blocks 11 (a .keys .now)) (l .loop .i) (a .to) (l .loop .t) (l .loop .inv .0) (c .loop-test .left)) ∙ l .loop .inv .1
+    sym (rounds-end (firstBlocks 11 (a .keys .now)) (l .loop .i) (a .to) (l .loop .t) (l .loop .inv .0) (c .loop-test .left)) ∙ l .loop .inv .1
 
 pub rounds-spec : {M : Type 1} → statement M
 rounds-spec =

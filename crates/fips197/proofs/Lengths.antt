@@ -1,0 +1,92 @@
+-- Lengths alone, whatever the bytes are: under a key of 16, each half takes 16 to 16.
+use mathlib.Core.Path.{_≡_, refl, sym, ap, _∙_}
+use mathlib.Core.List.{List, [], _∷_}
+use Prim.Native.Nat.{ℕ, zero, suc, _+_, _*_, _-_, _≤_, _<_}
+use native.Mathlib.Nat.{suc-mul, not-suc-le-zero, le-of-suc-le-suc}
+use native.Mathlib.Omega.{arith}
+use lib.Dec.{lit<}
+use lib.ListN.{length, getD, take, drop, length-take, length-drop}
+use lib.Seq.{slice}
+use Rattle.blocks.specs.Bytes.{xorBytes, firstBlocks}
+use Rattle.blocks.proofs.XorBytes.{length-xor}
+use Rattle.fips197.specs.State.{subBytes, invSubBytes, shiftRows, invShiftRows, mixColumns, invMixColumns}
+use Rattle.fips197.specs.KeyExpansion.{words, keyExpansion, roundKeys}
+use Rattle.fips197.specs.Cipher.{round, lastRound, invRound, invLastRound, rounds, invRounds}
+use Rattle.fips197.specs.Cipher as C
+use Rattle.fips197.specs.Aes128.{keys, firstHalf, secondHalf, invFirstHalf, invSecondHalf}
+use Rattle.fips197.proofs.KeyExpansion.{length-words}
+
+-- every element has 16
+abbrev pub AllLong : List (List ℕ) → Type 0
+AllLong [] = Unit {0}
+AllLong (b ∷ bs) = (length b ≡ 16) × AllLong bs
+
+long-take : (n : ℕ) (bs : List (List ℕ)) → AllLong bs → AllLong (take n bs)
+long-take zero bs h = tt
+long-take (suc n) [] h = tt
+long-take (suc n) (b ∷ bs) h = (h .0, long-take n bs (h .1))
+
+long-drop : (n : ℕ) (bs : List (List ℕ)) → AllLong bs → AllLong (drop n bs)
+long-drop zero bs h = h
+long-drop (suc n) [] h = tt
+long-drop (suc n) (b ∷ bs) h = long-drop n bs (h .1)
+
+long-slice : (from to : ℕ) (bs : List (List ℕ)) → AllLong bs → AllLong (slice from to bs)
+long-slice from to bs h = long-drop from (take to bs) (long-take to bs h)
+
+long-at : (i : ℕ) (bs : List (List ℕ)) → AllLong bs → i < length bs → length (getD bs i []) ≡ 16
+long-at i [] h l = absurd (not-suc-le-zero l)
+long-at zero (b ∷ bs) h l = h .0
+long-at (suc i) (b ∷ bs) h l = long-at i bs (h .1) (le-of-suc-le-suc l)
+
+long-firstBlocks : (n : ℕ) (a : List ℕ) → n * 16 ≤ length a → AllLong (firstBlocks n a)
+unfolding firstBlocks
+long-firstBlocks zero a l = tt
+long-firstBlocks (suc n) a l =
+    let e : suc n * 16 ≡ n * 16 + 16 = suc-mul n 16 in
+    (length-take 16 a ∙ omega arith, long-firstBlocks n (drop 16 a) (rw length-drop (omega arith)))
+
+-- ---- rounds
+
+length-add : (s k : List ℕ) → length s ≡ 16 → length k ≡ 16 → length (xorBytes s k) ≡ 16
+length-add s k hs hk = length-xor s k (hs ∙ sym hk) ∙ hs
+
+length-rounds : (ks : List (List ℕ)) (s : List ℕ) → AllLong ks → length s ≡ 16 → length (rounds ks s) ≡ 16
+unfolding rounds round mixColumns
+length-rounds [] s h e = e
+length-rounds (k ∷ ks) s h e = length-rounds ks (round s k) (h .1) (length-add (mixColumns (shiftRows (subBytes s))) k refl (h .0))
+
+length-invRounds : (ks : List (List ℕ)) (s : List ℕ) → length s ≡ 16 → length (invRounds ks s) ≡ 16
+unfolding invRounds invRound invSubBytes
+length-invRounds [] s e = e
+length-invRounds (k ∷ ks) s e = refl
+
+-- ---- the halves of AES-128
+
+module _ (key : List ℕ) (hk : length key ≡ 16) where
+  long-keys : AllLong (keys key)
+  unfolding keys roundKeys keyExpansion
+  long-keys = long-firstBlocks 11 (words 4 key 40) (omega (arith, length-words 4 key 40 hk))
+
+  key-at : (i : ℕ) → i < 11 → length (getD (keys key) i []) ≡ 16
+  unfolding keys roundKeys firstBlocks
+  key-at i h = long-at i (keys key) long-keys h
+
+  pub length-first : (s : List ℕ) → length s ≡ 16 → length (firstHalf key s) ≡ 16
+  unfolding firstHalf C.firstHalf
+  length-first s e =
+      length-rounds (slice 1 6 (keys key)) (xorBytes s (getD (keys key) 0 [])) (long-slice 1 6 (keys key) long-keys)
+      (length-add s (getD (keys key) 0 []) e (key-at 0 (lit< tt)))
+
+  pub length-second : (s : List ℕ) → length s ≡ 16 → length (secondHalf key s) ≡ 16
+  unfolding secondHalf C.secondHalf lastRound shiftRows
+  length-second s e = length-add (shiftRows (subBytes (rounds (slice 6 10 (keys key)) s))) (getD (keys key) 10 []) refl (key-at 10 (lit< tt))
+
+  pub length-invFirst : (s : List ℕ) → length s ≡ 16 → length (invFirstHalf key s) ≡ 16
+  unfolding invFirstHalf C.invFirstHalf
+  length-invFirst s e =
+      length-add (invRounds (slice 1 6 (keys key)) s) (getD (keys key) 0 []) (length-invRounds (slice 1 6 (keys key)) s e) (key-at 0 (lit< tt))
+
+  pub length-invSecond : (s : List ℕ) → length s ≡ 16 → length (invSecondHalf key s) ≡ 16
+  unfolding invSecondHalf C.invSecondHalf invLastRound invSubBytes
+  length-invSecond s e = length-invRounds (slice 6 10 (keys key)) (invLastRound s (getD (keys key) 10 [])) refl

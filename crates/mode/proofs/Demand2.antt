@@ -1,0 +1,516 @@
+-- DEMAND 2, proved: (b) `demand2`, (c) `first-row`, (d) `checked-as-opened`; and the record that checking gives is the one that sealing gives.
+use mathlib.Core.Path.{_≡_, refl, sym, ap, ap₂, subst, _∙_}
+use mathlib.Core.Logic.{_⊎_, inl, inr, _↔_}
+use mathlib.Core.List.{List, [], _∷_, _++_, append-assoc, append-nil}
+use mathlib.Core.Option.{Option, some, none as no-message}
+use mathlib.Core.Bool.{Bool, true, false, cond, not, _||_}
+use Prim.Native.Nat.{ℕ, zero, suc, _+_, _*_, _-_, _/_, _%_, _≤_, _<_}
+use native.Mathlib.Omega.{arith}
+use lib.ListN.{length, take, drop, getD, replicate, length-append, length-drop}
+use lib.Seq.{length-take-le}
+use lib.Dec.{eqb, ltb}
+use borrow.Author.Tests.{eqb-true, eq-eqb, ltb-true, ltb-false, le-ltb, lt-ltb, not-false, not-true}
+use Rattle.blocks.specs.Bytes.{xorBytes, Bytes, Block, same, concat}
+use Rattle.blocks.specs.Gf128.{timesX, jump}
+use Rattle.blocks.proofs.Chunks.{bytes-append, bytes-take, bytes-drop}
+use Rattle.blocks.proofs.XorBytes.{bytes-xor, xorBytes-cancel}
+use Rattle.blocks.proofs.TimesX.{length-timesX, length-jump, block-timesX}
+use Rattle.mode.specs.Mode.{Cipher, Lawful, Source, plaintext, ciphertext, Pass, RunRecord, zeroBlock, encrypt, startMask, middletext, written, pass, unbroken, tagFrom, unbrokenTag, blocksOf, padded, ivPart, cipherPart, tagPart, sealedRecord, recordOf, UnbrokenCheck}
+use Rattle.mode.specs.Table.{Answer, refused, given, decide, not16, unaligned, notSealed, tableOrder, inOrder, longestMessage, longestSealed}
+use Rattle.mode.specs.Calls.{unpadded, notPadded, orEmpty, decrypted, plaintextOf, openRows, openSealed, sealRows, sealRunRows, checkRunRows, joinTwoRows, joinListRows, closeRows, testRows, Kind, Outcome, outcomeBy, seal}
+use Rattle.mode.specs.Demands.{SealedFrom, Demand2, CheckedAsOpened}
+use Rattle.mode.proofs.Laws.{AllLong, xor-long, pass-mask, preauthenticator-long, start-long}
+use Rattle.mode.proofs.Blocks.{length-padded, count-middle}
+use Rattle.mode.proofs.Runs.{is16}
+use Rattle.mode.proofs.Segments.{not-both}
+use Rattle.mode.proofs.Demand3.{same-true, same-self, cipher-length}
+use Rattle.mode.proofs.Bytes.{bytes-left, bytes-padded, AllBlocks, all-blocks-long, bytes-concat, length-concat, good-blocks, concat-blocks, blocks-concat, parts-of, parts-whole, unpad-sound, unpad-complete}
+
+-- ---- the table
+
+-- none of these rows holds
+abbrev pub Passed : List (ℕ × Bool) → Type 0
+Passed [] = Unit {0}
+Passed (row ∷ rows) = (row .1 ≡ false) × Passed rows
+
+pub given-rows : {A : Type 0} (rows : List (ℕ × Bool)) (a m : A) → decide rows a ≡ given m → Passed rows × (a ≡ m)
+unfolding decide
+given-rows [] a m e = (tt, (cc))
+given-rows (row ∷ rows) a m e = by (row .1) refl e (given-rows rows a m)
+  where
+    by : (t : Bool) → row .1 ≡ t → cond t (refused (row .0)) (decide rows a) ≡ given m → (decide rows a ≡ given m → Passed rows × (a ≡ m)) → Passed (row ∷ rows) × (a ≡ m)
+    by true p e rec = absurd (let z : _≡_ {A = ℕ} 0 1 = cc in omega arith)
+    by false p e rec = ((p, (rec e) .0), (rec e) .1)
+
+pub passed-rows : {A : Type 0} (rows : List (ℕ × Bool)) (a : A) → Passed rows → decide rows a ≡ given a
+unfolding decide
+passed-rows [] a h = refl
+passed-rows (row ∷ rows) a h = rw (h .0) (passed-rows rows a (h .1))
+
+refuses : {A : Type 0} (above below : List (ℕ × Bool)) (a : A) (n : ℕ) → Passed above → decide (above ++ (n, true) ∷ below) a ≡ refused n
+unfolding decide
+refuses [] below a n h = refl
+refuses (row ∷ above) below a n h = rw (h .0) (refuses above below a n (h .1))
+
+-- a row that holds, with none that holds above it
+pub record Decides (rows : List (ℕ × Bool)) (n : ℕ) : Type 0 where
+  pub above : List (ℕ × Bool)
+  pub below : List (ℕ × Bool)
+  pub rows-are : rows ≡ above ++ (n, true) ∷ below
+  pub none-above : Passed above
+
+decides : {A : Type 0} (rows : List (ℕ × Bool)) (a : A) (n : ℕ) → decide rows a ≡ refused n → Decides rows n
+unfolding decide
+decides [] a n e = absurd (let z : _≡_ {A = ℕ} 0 1 = cc in omega arith)
+decides (row ∷ rows) a n e = by (row .1) refl e (decides rows a n)
+  where
+    by : (t : Bool) → row .1 ≡ t → cond t (refused (row .0)) (decide rows a) ≡ refused n → (decide rows a ≡ refused n → Decides rows n) → Decides (row ∷ rows) n
+    by true p e rec =
+        let m : row .0 ≡ n = cc in
+        record { above = []; below = rows; rows-are = (λ i. (m i, p i) ∷ rows); none-above = tt }
+    by false p e rec =
+        let d = rec e in
+        record { above = row ∷ d .above; below = d .below; rows-are = ap (λ (t : List (ℕ × Bool)). row ∷ t) (d .rows-are); none-above = (p, d .none-above) }
+
+-- DEMAND 2 (c): each number is returned if and only if its row's condition holds and no higher row's does
+pub first-row : {A : Type 0} (rows : List (ℕ × Bool)) (a : A) (n : ℕ) → (decide rows a ≡ refused n) ↔ Decides rows n
+first-row rows a n = (decides rows a n, λ d. rw (d .rows-are) (refuses (d .above) (d .below) a n (d .none-above)))
+
+-- ---- blocks sealed and opened
+
+module _ (c : Cipher) (laws : Lawful c) (key : List ℕ) (kb : Block key) where
+  pub cipherBlock : List ℕ → List ℕ → List ℕ
+  cipherBlock mask b = xorBytes (c .secondHalf key (c .firstHalf key (xorBytes b mask))) mask
+
+  plainBlock : List ℕ → List ℕ → List ℕ
+  plainBlock mask b = xorBytes (c .firstHalfBack key (c .secondHalfBack key (xorBytes b mask))) mask
+
+  pub sealedBlocks : List (List ℕ) → List ℕ → List (List ℕ)
+  sealedBlocks [] mask = []
+  sealedBlocks (b ∷ bs) mask = cipherBlock mask b ∷ sealedBlocks bs (timesX mask)
+
+  openedBlocks : List (List ℕ) → List ℕ → List (List ℕ)
+  openedBlocks [] mask = []
+  openedBlocks (b ∷ bs) mask = plainBlock mask b ∷ openedBlocks bs (timesX mask)
+
+  add : (a b : List ℕ) → Block a → Block b → Block (xorBytes a b)
+  add a b ha hb =
+      record { long = xor-long a b (ha .long) (hb .long); bytes = bytes-xor a b (ha .long ∙ sym (hb .long)) (ha .bytes) (hb .bytes) }
+
+  first-block : (b : List ℕ) → Block b → Block (c .firstHalf key b)
+  first-block b h = record { long = laws .firstHalf-long key b (kb .long) (h .long); bytes = laws .firstHalf-bytes key b kb h }
+
+  second-block : (b : List ℕ) → Block b → Block (c .secondHalf key b)
+  second-block b h = record { long = laws .secondHalf-long key b (kb .long) (h .long); bytes = laws .secondHalf-bytes key b kb h }
+
+  first-back : (b : List ℕ) → Block b → Block (c .firstHalfBack key b)
+  first-back b h = record { long = laws .firstHalfBack-long key b (kb .long) (h .long); bytes = laws .firstHalfBack-bytes key b kb h }
+
+  second-back : (b : List ℕ) → Block b → Block (c .secondHalfBack key b)
+  second-back b h = record { long = laws .secondHalfBack-long key b (kb .long) (h .long); bytes = laws .secondHalfBack-bytes key b kb h }
+
+  cancel : (a k : List ℕ) → Block a → Block k → xorBytes (xorBytes a k) k ≡ a
+  cancel a k ha hk = xorBytes-cancel a k (ha .long ∙ sym (hk .long))
+
+  -- the middletext of a ciphertext block is the one that it was made from
+  middle-back : (mask b : List ℕ) → Block mask → Block b → c .secondHalfBack key (xorBytes (cipherBlock mask b) mask) ≡ c .firstHalf key (xorBytes b mask)
+  unfolding cipherBlock
+  middle-back mask b hm hb =
+      let t = first-block (xorBytes b mask) (add b mask hb hm) in
+      ap (c .secondHalfBack key) (cancel (c .secondHalf key (c .firstHalf key (xorBytes b mask))) mask (second-block (c .firstHalf key (xorBytes b mask)) t) hm)
+      ∙ laws .secondHalf-undone key (c .firstHalf key (xorBytes b mask)) kb t
+
+  plain-cipher : (mask b : List ℕ) → Block mask → Block b → plainBlock mask (cipherBlock mask b) ≡ b
+  unfolding plainBlock
+  plain-cipher mask b hm hb =
+      ap (λ (t : List ℕ). xorBytes (c .firstHalfBack key t) mask) (middle-back mask b hm hb)
+      ∙ ap (λ (t : List ℕ). xorBytes t mask) (laws .firstHalf-undone key (xorBytes b mask) kb (add b mask hb hm))
+      ∙ cancel b mask hb hm
+
+  cipher-plain : (mask b : List ℕ) → Block mask → Block b → cipherBlock mask (plainBlock mask b) ≡ b
+  unfolding plainBlock cipherBlock
+  cipher-plain mask b hm hb =
+      let u = second-back (xorBytes b mask) (add b mask hb hm) in
+      let v = first-back (c .secondHalfBack key (xorBytes b mask)) u in
+      ap (λ (t : List ℕ). xorBytes (c .secondHalf key (c .firstHalf key t)) mask)
+      (cancel (c .firstHalfBack key (c .secondHalfBack key (xorBytes b mask))) mask v hm)
+      ∙ ap (λ (t : List ℕ). xorBytes (c .secondHalf key t) mask) (laws .firstHalfBack-undone key (c .secondHalfBack key (xorBytes b mask)) kb u)
+      ∙ ap (λ (t : List ℕ). xorBytes t mask) (laws .secondHalfBack-undone key (xorBytes b mask) kb (add b mask hb hm))
+      ∙ cancel b mask hb hm
+
+  pub sealed-good : (bs : List (List ℕ)) (mask : List ℕ) → AllBlocks bs → Block mask → AllBlocks (sealedBlocks bs mask)
+  unfolding sealedBlocks cipherBlock
+  sealed-good [] mask h hm = tt
+  sealed-good (b ∷ bs) mask h hm = (
+    add (c .secondHalf key (c .firstHalf key (xorBytes b mask))) mask
+        (second-block (c .firstHalf key (xorBytes b mask)) (first-block (xorBytes b mask) (add b mask (h .0) hm))) hm,
+    sealed-good bs (timesX mask) (h .1) (block-timesX mask (hm .long)),
+  )
+
+  opened-good : (bs : List (List ℕ)) (mask : List ℕ) → AllBlocks bs → Block mask → AllBlocks (openedBlocks bs mask)
+  unfolding openedBlocks plainBlock
+  opened-good [] mask h hm = tt
+  opened-good (b ∷ bs) mask h hm = (
+    add (c .firstHalfBack key (c .secondHalfBack key (xorBytes b mask))) mask
+        (first-back (c .secondHalfBack key (xorBytes b mask)) (second-back (xorBytes b mask) (add b mask (h .0) hm))) hm,
+    opened-good bs (timesX mask) (h .1) (block-timesX mask (hm .long)),
+  )
+
+  opened-sealed : (bs : List (List ℕ)) (mask : List ℕ) → AllBlocks bs → Block mask → openedBlocks (sealedBlocks bs mask) mask ≡ bs
+  unfolding sealedBlocks openedBlocks
+  opened-sealed [] mask h hm = refl
+  opened-sealed (b ∷ bs) mask h hm =
+      ap₂ (λ (x : List ℕ) (y : List (List ℕ)). x ∷ y) (plain-cipher mask b hm (h .0)) (opened-sealed bs (timesX mask) (h .1) (block-timesX mask (hm .long)))
+
+  sealed-opened : (bs : List (List ℕ)) (mask : List ℕ) → AllBlocks bs → Block mask → sealedBlocks (openedBlocks bs mask) mask ≡ bs
+  unfolding sealedBlocks openedBlocks
+  sealed-opened [] mask h hm = refl
+  sealed-opened (b ∷ bs) mask h hm =
+      ap₂ (λ (x : List ℕ) (y : List (List ℕ)). x ∷ y) (cipher-plain mask b hm (h .0)) (sealed-opened bs (timesX mask) (h .1) (block-timesX mask (hm .long)))
+
+  pub length-sealed : (bs : List (List ℕ)) (mask : List ℕ) → length (sealedBlocks bs mask) ≡ length bs
+  unfolding sealedBlocks
+  length-sealed [] mask = refl
+  length-sealed (b ∷ bs) mask = ap suc (length-sealed bs (timesX mask))
+
+  length-opened : (bs : List (List ℕ)) (mask : List ℕ) → length (openedBlocks bs mask) ≡ length bs
+  unfolding openedBlocks
+  length-opened [] mask = refl
+  length-opened (b ∷ bs) mask = ap suc (length-opened bs (timesX mask))
+
+  pub output-is : (bs : List (List ℕ)) (mask p : List ℕ) → (pass c plaintext key bs mask p) .output ≡ concat (sealedBlocks bs mask)
+  unfolding pass written middletext sealedBlocks cipherBlock concat
+  output-is [] mask p = refl
+  output-is (b ∷ bs) mask p =
+      ap (λ (r : List ℕ). cipherBlock mask b ++ r) (output-is bs (timesX mask) (xorBytes (timesX p) (c .firstHalf key (xorBytes b mask))))
+
+  decrypted-is : (bs : List (List ℕ)) (mask : List ℕ) → decrypted c key bs mask ≡ concat (openedBlocks bs mask)
+  unfolding decrypted middletext openedBlocks plainBlock concat
+  decrypted-is [] mask = refl
+  decrypted-is (b ∷ bs) mask = ap (λ (r : List ℕ). plainBlock mask b ++ r) (decrypted-is bs (timesX mask))
+
+  -- checking gives the pre-authenticator that sealing gives
+  pub same-preauthenticator : (bs : List (List ℕ)) (mask p : List ℕ) → AllBlocks bs → Block mask
+      → (pass c ciphertext key (sealedBlocks bs mask) mask p) .preauthenticator ≡ (pass c plaintext key bs mask p) .preauthenticator
+  unfolding pass middletext sealedBlocks
+  same-preauthenticator [] mask p h hm = refl
+  same-preauthenticator (b ∷ bs) mask p h hm =
+      ap (λ (t : List ℕ). (pass c ciphertext key (sealedBlocks bs (timesX mask)) (timesX mask) (xorBytes (timesX p) t)) .preauthenticator) (middle-back mask b hm (h .0))
+      ∙ same-preauthenticator bs (timesX mask) (xorBytes (timesX p) (c .firstHalf key (xorBytes b mask))) (h .1) (block-timesX mask (hm .long))
+
+  module _ (iv : List ℕ) (ib : Block iv) where
+    pub start-block : Block (startMask c key iv)
+    unfolding startMask encrypt
+    start-block = by (same (xorBytes (encrypt c key (xorBytes iv key)) key) zeroBlock)
+      where
+        by : (z : Bool) → Block (cond z key (xorBytes (encrypt c key (xorBytes iv key)) key))
+        by true = kb
+        by false =
+            add (encrypt c key (xorBytes iv key)) key (second-block (c .firstHalf key (xorBytes iv key)) (first-block (xorBytes iv key) (add iv key ib kb))) kb
+
+    abbrev mask0 : List ℕ
+    mask0 = startMask c key iv
+
+    same-tag : (bs : List (List ℕ)) → AllBlocks bs → unbrokenTag c ciphertext key iv (sealedBlocks bs mask0) ≡ unbrokenTag c plaintext key iv bs
+    unfolding unbrokenTag unbroken
+    same-tag bs h =
+        ap₂ (tagFrom c key) (same-preauthenticator bs mask0 zeroBlock h start-block)
+        (pass-mask c laws ciphertext key (kb .long) (sealedBlocks bs mask0) mask0 zeroBlock
+        ∙ ap (λ (n : ℕ). jump n mask0) (length-sealed bs mask0)
+        ∙ sym (pass-mask c laws plaintext key (kb .long) bs mask0 zeroBlock))
+
+    tag-long : (bs : List (List ℕ)) → AllBlocks bs → length (unbrokenTag c plaintext key iv bs) ≡ 16
+    unfolding unbrokenTag unbroken tagFrom encrypt
+    tag-long bs h =
+        let p : length ((pass c plaintext key bs mask0 zeroBlock) .preauthenticator) ≡ 16 = preauthenticator-long c laws plaintext key (kb .long) bs mask0 zeroBlock (all-blocks-long bs h) (start-block .long) refl in
+        let m : length ((pass c plaintext key bs mask0 zeroBlock) .mask) ≡ 16 = rw (pass-mask c laws plaintext key (kb .long) bs mask0 zeroBlock) (length-jump (length bs) mask0 (start-block .long)) in
+        xor-long (encrypt c key (xorBytes ((pass c plaintext key bs mask0 zeroBlock) .preauthenticator) ((pass c plaintext key bs mask0 zeroBlock) .mask))) ((pass c plaintext key bs mask0 zeroBlock) .preauthenticator)
+        (laws .secondHalf-long key (c .firstHalf key (xorBytes ((pass c plaintext key bs mask0 zeroBlock) .preauthenticator) ((pass c plaintext key bs mask0 zeroBlock) .mask))) (kb .long)
+        (laws .firstHalf-long key (xorBytes ((pass c plaintext key bs mask0 zeroBlock) .preauthenticator) ((pass c plaintext key bs mask0 zeroBlock) .mask)) (kb .long)
+        (xor-long ((pass c plaintext key bs mask0 zeroBlock) .preauthenticator) ((pass c plaintext key bs mask0 zeroBlock) .mask) p m))) p
+
+    unbroken-is : (bs : List (List ℕ)) → (unbroken c plaintext key iv bs) .output ≡ concat (sealedBlocks bs mask0)
+    unfolding unbroken
+    unbroken-is bs = output-is bs mask0 zeroBlock
+
+-- ---- lengths and answers
+
+pub outcome-answer : {A : Type 0} (a : Answer A) (bytes : List ℕ) (room : ℕ) → (outcomeBy a bytes room) .answer ≡ a
+unfolding outcomeBy
+outcome-answer (refused n) bytes room = refl
+outcome-answer (given m) bytes room = refl
+
+pub or-false : (p q : Bool) → (p || q) ≡ false → (p ≡ false) × (q ≡ false)
+or-false true q e = not-both (sym e)
+or-false false q e = (refl, e)
+
+pub sealed-lengths : (sealed : List ℕ) → notSealed sealed ≡ false → (48 ≤ length sealed) × (length sealed ≤ longestSealed) × (length sealed % 16 ≡ 0)
+unfolding notSealed unaligned
+sealed-lengths sealed e =
+    let a = or-false (ltb (length sealed) 48) (ltb longestSealed (length sealed) || not (eqb (length sealed % 16) 0)) e in
+    let b = or-false (ltb longestSealed (length sealed)) (not (eqb (length sealed % 16) 0)) (a .1) in
+    (ltb-false (length sealed) 48 (a .0), ltb-false longestSealed (length sealed) (b .0), eqb-true (length sealed % 16) 0 (not-false (eqb (length sealed % 16) 0) (b .1)))
+
+pub lengths-sealed : (sealed : List ℕ) → 48 ≤ length sealed → length sealed ≤ longestSealed → length sealed % 16 ≡ 0 → notSealed sealed ≡ false
+unfolding notSealed unaligned
+lengths-sealed sealed p q r = rw (le-ltb (length sealed) 48 p, le-ltb longestSealed (length sealed) q, eq-eqb (length sealed % 16) 0 r)
+
+found : (o : Option (List ℕ)) (m : List ℕ) → notPadded o ≡ false → orEmpty o ≡ m → o ≡ some m
+unfolding notPadded orEmpty
+found no-message m e p = not-both (sym e)
+found (some n) m e p = ap (λ (l : List ℕ). some l) p
+
+module _ (c : Cipher) (laws : Lawful c) (key : List ℕ) (kb : Block key) where
+  -- a message that is opened was sealed
+  open-sound : (sealed m : List ℕ) (room : ℕ) → Bytes sealed → (openSealed c key sealed room) .answer ≡ given m → SealedFrom c key sealed m
+  unfolding openSealed openRows
+  open-sound sealed m room sb e =
+      record {
+        iv = iv;
+        iv-block = ib;
+        m-bytes = bytes-left-of (subst Bytes (sym padded-is) (bytes-concat bs bs-good));
+        m-fits =
+            let n : 16 * (length m / 16 + 1) ≡ 16 * length bs = sym (length-padded m) ∙ ap length padded-is ∙ length-concat bs bs-good in
+            let k : length bs ≡ (length sealed - 32) / 16 = length-opened c laws key kb cs mask ∙ count-middle (cipherPart sealed) ∙ ap (λ (n : ℕ). n / 16) (cipher-length sealed (lens .0)) in
+            omega (arith, lens .1);
+        record-is = whole;
+      }
+    where
+      rows : Passed (openRows c key sealed room) × (orEmpty (unpadded (plaintextOf c key sealed)) ≡ m)
+      rows = given-rows (openRows c key sealed room) (orEmpty (unpadded (plaintextOf c key sealed))) m (sym (outcome-answer (decide (openRows c key sealed room) (orEmpty (unpadded (plaintextOf c key sealed)))) _ room) ∙ e)
+
+      lens : (48 ≤ length sealed) × (length sealed ≤ longestSealed) × (length sealed % 16 ≡ 0)
+      lens = sealed-lengths sealed (rows .0 .1 .0)
+
+      iv : List ℕ
+      iv = ivPart sealed
+
+      ib : Block (ivPart sealed)
+      ib = unfold ivPart in record { long = length-take-le 16 sealed (omega (arith, lens .0)); bytes = bytes-take 16 sealed sb }
+
+      mask : List ℕ
+      mask = startMask c key (ivPart sealed)
+
+      cs : List (List ℕ)
+      cs = blocksOf (cipherPart sealed)
+
+      aligned : length (cipherPart sealed) % 16 ≡ 0
+      aligned = ap (λ (n : ℕ). n % 16) (cipher-length sealed (lens .0)) ∙ omega (arith, lens .0, lens .2)
+
+      cs-good : AllBlocks (blocksOf (cipherPart sealed))
+      cs-good = good-blocks (cipherPart sealed) aligned (unfold cipherPart in (bytes-take (length sealed - 32) (drop 16 sealed) (bytes-drop 16 sealed sb)))
+
+      bs : List (List ℕ)
+      bs = openedBlocks c laws key kb (blocksOf (cipherPart sealed)) (startMask c key (ivPart sealed))
+
+      bs-good : AllBlocks (openedBlocks c laws key kb (blocksOf (cipherPart sealed)) (startMask c key (ivPart sealed)))
+      bs-good = opened-good c laws key kb cs mask cs-good (start-block c laws key kb iv ib)
+
+      padded-is : padded m ≡ concat (openedBlocks c laws key kb (blocksOf (cipherPart sealed)) (startMask c key (ivPart sealed)))
+      padded-is =
+          unpad-sound 16 (plaintextOf c key sealed) m (unfold unpadded in (found (unpadded (plaintextOf c key sealed)) m (rows .0 .1 .1 .1 .1 .0) (rows .1)))
+          ∙ plain-is
+        where
+          plain-is : plaintextOf c key sealed ≡ concat (openedBlocks c laws key kb (blocksOf (cipherPart sealed)) (startMask c key (ivPart sealed)))
+          plain-is = unfold plaintextOf in (decrypted-is c laws key kb cs mask)
+
+      bytes-left-of : Bytes (padded m) → Bytes m
+      bytes-left-of h = bytes-left m (0x80 ∷ replicate (15 - length m % 16) 0) (unfold padded in h)
+
+      blocks-are : blocksOf (padded m) ≡ openedBlocks c laws key kb (blocksOf (cipherPart sealed)) (startMask c key (ivPart sealed))
+      blocks-are = ap blocksOf padded-is ∙ blocks-concat bs bs-good
+
+      back : sealedBlocks c laws key kb bs mask ≡ cs
+      back = sealed-opened c laws key kb cs mask cs-good (start-block c laws key kb iv ib)
+
+      text-is : (unbroken c plaintext key iv bs) .output ≡ cipherPart sealed
+      text-is = unbroken-is c laws key kb iv ib bs ∙ ap concat back ∙ concat-blocks (cipherPart sealed) aligned
+
+      tag-is : unbrokenTag c plaintext key iv bs ≡ tagPart sealed
+      tag-is =
+          sym (same-tag c laws key kb iv ib bs bs-good) ∙ ap (unbrokenTag c ciphertext key iv) back
+          ∙ same-true (unbrokenTag c ciphertext key iv cs) (tagPart sealed) (not-false (same (unbrokenTag c ciphertext key iv cs) (tagPart sealed)) (rows .0 .1 .1 .1 .0))
+
+      whole : sealedRecord c key (ivPart sealed) m ≡ sealed
+      whole =
+          unfold sealedRecord in
+          (ap (λ (b : List (List ℕ)). ivPart sealed ++ (unbroken c plaintext key (ivPart sealed) b) .output ++ unbrokenTag c plaintext key (ivPart sealed) b) blocks-are
+          ∙ ap₂ (λ (x y : List ℕ). ivPart sealed ++ x ++ y) text-is tag-is
+          ∙ parts-whole sealed (lens .0))
+
+  -- what was sealed is opened
+  open-complete : (sealed m : List ℕ) (room : ℕ) → length (cipherPart sealed) ≤ room → SealedFrom c key sealed m → (openSealed c key sealed room) .answer ≡ given m
+  unfolding orEmpty
+  open-complete sealed m room h f =
+      subst (λ (r : List ℕ). length (cipherPart r) ≤ room → (openSealed c key r room) .answer ≡ given m) (f .record-is) by h
+    where
+      iv : List ℕ
+      iv = f .iv
+
+      bs : List (List ℕ)
+      bs = blocksOf (padded m)
+
+      bs-good : AllBlocks (blocksOf (padded m))
+      bs-good = good-blocks (padded m) (ap (λ (n : ℕ). n % 16) (length-padded m) ∙ omega arith) (bytes-padded m (f .m-bytes))
+
+      mask : List ℕ
+      mask = startMask c key (f .iv)
+
+      cs : List (List ℕ)
+      cs = sealedBlocks c laws key kb (blocksOf (padded m)) (startMask c key (f .iv))
+
+      cs-good : AllBlocks (sealedBlocks c laws key kb (blocksOf (padded m)) (startMask c key (f .iv)))
+      cs-good = sealed-good c laws key kb bs mask bs-good (start-block c laws key kb iv (f .iv-block))
+
+      tag : List ℕ
+      tag = unbrokenTag c plaintext key (f .iv) (blocksOf (padded m))
+
+      text : List ℕ
+      text = concat cs
+
+      r : List ℕ
+      r = sealedRecord c key (f .iv) m
+
+      r-is : sealedRecord c key (f .iv) m ≡ f .iv ++ text ++ tag
+      r-is = unfold sealedRecord in (ap (λ (x : List ℕ). f .iv ++ x ++ tag) (unbroken-is c laws key kb iv (f .iv-block) bs))
+
+      parts : (ivPart (f .iv ++ text ++ tag) ≡ f .iv) × (cipherPart (f .iv ++ text ++ tag) ≡ text) × (tagPart (f .iv ++ text ++ tag) ≡ tag)
+      parts = parts-of (f .iv) text tag (f .iv-block .long) (tag-long c laws key kb iv (f .iv-block) bs bs-good)
+
+      iv-is : ivPart r ≡ f .iv
+      iv-is = ap ivPart r-is ∙ parts .0
+
+      text-is : cipherPart r ≡ text
+      text-is = ap cipherPart r-is ∙ parts .1
+
+      tag-is : tagPart r ≡ tag
+      tag-is = ap tagPart r-is ∙ parts .2
+
+      blocks-are : blocksOf (cipherPart r) ≡ cs
+      blocks-are = ap blocksOf text-is ∙ blocks-concat cs cs-good
+
+      count : length (blocksOf (padded m)) ≡ length m / 16 + 1
+      count = count-middle (padded m) ∙ ap (λ (n : ℕ). n / 16) (length-padded m) ∙ omega arith
+
+      r-long : length r ≡ 16 * (length m / 16 + 1) + 32
+      r-long =
+          ap length r-is ∙ length-append (f .iv ++ text) tag
+          ∙ ap₂ (λ (x y : ℕ). x + y) (length-append (f .iv) text ∙ ap₂ (λ (x y : ℕ). x + y) (f .iv-block .long) (length-concat cs cs-good ∙ ap (λ (n : ℕ). 16 * n) (length-sealed c laws key kb bs mask ∙ count)))
+          (tag-long c laws key kb iv (f .iv-block) bs bs-good)
+          ∙ omega arith
+
+      fine : notSealed r ≡ false
+      fine = lengths-sealed r (rw r-long (omega arith)) (rw r-long (omega (arith, f .m-fits))) (rw r-long (omega arith))
+
+      tag-same : same (unbrokenTag c ciphertext key (ivPart r) (blocksOf (cipherPart r))) (tagPart r) ≡ true
+      tag-same =
+          ap₂ (λ (x y : List ℕ). same x y)
+          (ap₂ (λ (v : List ℕ) (b : List (List ℕ)). unbrokenTag c ciphertext key v b) iv-is blocks-are ∙ same-tag c laws key kb iv (f .iv-block) bs bs-good)
+          tag-is
+          ∙ same-self tag
+
+      plain-is : plaintextOf c key r ≡ padded m
+      plain-is =
+          unfold plaintextOf in
+          (ap₂ (λ (v : List ℕ) (b : List (List ℕ)). decrypted c key b (startMask c key v)) iv-is blocks-are
+          ∙ decrypted-is c laws key kb cs mask
+          ∙ ap concat (opened-sealed c laws key kb bs mask bs-good (start-block c laws key kb iv (f .iv-block)))
+          ∙ concat-blocks (padded m) (ap (λ (n : ℕ). n % 16) (length-padded m) ∙ omega arith))
+
+      message-is : unpadded (plaintextOf c key r) ≡ some m
+      message-is = ap unpadded plain-is ∙ (unfold unpadded in (unpad-complete 16 m (rw (length-padded m) (omega arith))))
+
+      by : length (cipherPart r) ≤ room → (openSealed c key r room) .answer ≡ given m
+      by h =
+          unfold openSealed in
+          (outcome-answer (decide (openRows c key r room) (orEmpty (unpadded (plaintextOf c key r)))) _ room
+          ∙ passed-rows (openRows c key r room) (orEmpty (unpadded (plaintextOf c key r)))
+          (unfold openRows notPadded in
+          (is16 key (kb .long), (fine, (le-ltb room (length (cipherPart r)) h, (ap not tag-same, (ap notPadded message-is, tt))))))
+          ∙ ap (λ (o : Option (List ℕ)). given (orEmpty o)) message-is)
+
+-- DEMAND 2 (b)
+pub demand2 : (c : Cipher) → Lawful c → Demand2 c
+demand2 c laws key sealed m room kb sb h = (open-sound c laws key kb sealed m room sb, open-complete c laws key kb sealed m room h)
+
+-- DEMAND 2 (d)
+pub checked-as-opened : (c : Cipher) → CheckedAsOpened c
+unfolding UnbrokenCheck
+checked-as-opened c key sealed kl ns = (to, from)
+  where
+    tag : List ℕ
+    tag = unbrokenTag c ciphertext key (ivPart sealed) (blocksOf (cipherPart sealed))
+
+    room : ℕ
+    room = length (cipherPart sealed)
+
+    m : List ℕ
+    m = orEmpty (unpadded (plaintextOf c key sealed))
+
+    answer-is : (openSealed c key sealed room) .answer ≡ decide (openRows c key sealed room) m
+    answer-is = unfold openSealed in (outcome-answer (decide (openRows c key sealed room) m) _ room)
+
+    -- rows 1, 3 and 5 do not hold
+    rest : decide (openRows c key sealed room) m ≡ decide ((6, not (same tag (tagPart sealed))) ∷ (7, notPadded (unpadded (plaintextOf c key sealed))) ∷ []) m
+    rest = unfold openRows decide in rw (is16 key kl, ns, le-ltb room room (omega arith))
+
+    to : tag ≡ tagPart sealed
+        → ((m : List ℕ) × ((openSealed c key sealed room) .answer ≡ given m)) ⊎ ((openSealed c key sealed room) .answer ≡ refused 7)
+    to e = by (notPadded (unpadded (plaintextOf c key sealed))) refl
+      where
+        right : same tag (tagPart sealed) ≡ true
+        right = ap (λ (t : List ℕ). same tag t) (sym e) ∙ same-self tag
+
+        by : (t : Bool) → notPadded (unpadded (plaintextOf c key sealed)) ≡ t
+            → ((m : List ℕ) × ((openSealed c key sealed room) .answer ≡ given m)) ⊎ ((openSealed c key sealed room) .answer ≡ refused 7)
+        by true p = inr (answer-is ∙ rest ∙ (unfold decide in rw (right, p)))
+        by false p = inl (m, answer-is ∙ rest ∙ (unfold decide in rw (right, p)))
+
+    right-tag : (t : Bool) → same tag (tagPart sealed) ≡ t
+        → ((m : List ℕ) × ((openSealed c key sealed room) .answer ≡ given m)) ⊎ ((openSealed c key sealed room) .answer ≡ refused 7) → tag ≡ tagPart sealed
+    right-tag true p h = same-true tag (tagPart sealed) p
+    right-tag false p (inl h) =
+        let six : (openSealed c key sealed room) .answer ≡ refused 6 = answer-is ∙ rest ∙ (unfold decide in rw p) in
+        let e : given (h .0) ≡ refused 6 = sym (h .1) ∙ six in
+        absurd (let z : _≡_ {A = ℕ} 0 1 = cc in omega arith)
+    right-tag false p (inr h) =
+        let six : (openSealed c key sealed room) .answer ≡ refused 6 = answer-is ∙ rest ∙ (unfold decide in rw p) in
+        let e : _≡_ {A = Answer (List ℕ)} (refused 7) (refused 6) = sym h ∙ six in
+        absurd (let z : _≡_ {A = ℕ} 7 6 = cc in omega arith)
+
+    from : ((m : List ℕ) × ((openSealed c key sealed room) .answer ≡ given m)) ⊎ ((openSealed c key sealed room) .answer ≡ refused 7) → tag ≡ tagPart sealed
+    from h = right-tag (same tag (tagPart sealed)) refl h
+
+-- ---- the table's order, and zeros beside a refusal
+
+-- DEMAND 2 (c), the order: in every call the rows stand as in the table
+pub record RowsInOrder (c : Cipher) : Type 0 where
+  pub seal-rows : (key iv message : List ℕ) (room : ℕ) → inOrder tableOrder (sealRows c key iv message room) ≡ true
+  pub open-rows : (key sealed : List ℕ) (room : ℕ) → inOrder tableOrder (openRows c key sealed room) ≡ true
+  pub seal-run-rows : (key iv : List ℕ) (first : ℕ) (kind : Kind) (bytes : List ℕ) (room : ℕ) → inOrder tableOrder (sealRunRows key iv first kind bytes room) ≡ true
+  pub check-run-rows : (key iv : List ℕ) (first : ℕ) (bytes : List ℕ) → inOrder tableOrder (checkRunRows key iv first bytes) ≡ true
+  pub join-two-rows : (l r : RunRecord) → inOrder tableOrder (joinTwoRows l r) ≡ true
+  pub join-list-rows : (rs : List RunRecord) → inOrder tableOrder (joinListRows rs) ≡ true
+  pub close-rows : (key iv : List ℕ) (r : RunRecord) → inOrder tableOrder (closeRows key iv r) ≡ true
+  pub test-rows : (key iv : List ℕ) (r : RunRecord) (tag : List ℕ) → inOrder tableOrder (testRows c key iv r tag) ≡ true
+
+pub rows-in-order : (c : Cipher) → RowsInOrder c
+unfolding inOrder openRows
+rows-in-order c =
+    record {
+      seal-rows = λ key iv message room. refl;
+      open-rows = λ key sealed room. refl;
+      seal-run-rows = λ key iv first kind bytes room. refl;
+      check-run-rows = λ key iv first bytes. refl;
+      join-two-rows = λ l r. refl;
+      join-list-rows = λ rs. refl;
+      close-rows = λ key iv r. refl;
+      test-rows = λ key iv r tag. refl;
+    }
+
+-- DEMAND 1: beside a number the whole lent output is zeros
+pub refused-zeros : {A : Type 0} (a : Answer A) (bytes : List ℕ) (room n : ℕ) → (outcomeBy a bytes room) .answer ≡ refused n
+    → ((outcomeBy a bytes room) .output ≡ replicate room 0) × ((outcomeBy a bytes room) .reported ≡ 0)
+unfolding outcomeBy
+refused-zeros (refused m) bytes room n e = (refl, refl)
+refused-zeros (given r) bytes room n e = absurd (let z : _≡_ {A = ℕ} 0 1 = cc in omega arith)

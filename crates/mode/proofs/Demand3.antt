@@ -1,0 +1,488 @@
+-- DEMAND 3, proved: `demand3`, at the end. An induction over the calls: what holds at every moment (`Inv`) holds of the empty rack, and each
+-- call that may stand is answered as document 01 says and leaves a rack of which it holds.
+use mathlib.Core.Path.{_≡_, refl, sym, ap, ap₂, subst, _∙_}
+use mathlib.Core.Logic.{_⊎_, inl, inr, _↔_}
+use mathlib.Core.List.{List, [], _∷_, _++_, map, append-assoc, append-nil}
+use mathlib.Core.Bool.{Bool, true, false, cond, not, _&&_}
+use Prim.Native.Nat.{ℕ, zero, suc, _+_, _*_, _-_, _/_, _%_, _≤_, _<_}
+use native.Mathlib.Nat.{zero-add, add-comm, suc-add}
+use native.Mathlib.Omega.{arith}
+use lib.ListN.{length, take, drop, getD, set, replicate, length-append, length-drop, take-append-drop}
+use lib.Seq.{split-at, set-split, take-append-seam, length-take-le}
+use lib.Dec.{eqb, leb, ltb}
+use borrow.Author.Tests.{eq-eqb, ne-eqb, eqb-true}
+use Rattle.blocks.specs.Bytes.{same, concat}
+use Rattle.blocks.specs.Gf128.{jump}
+use Rattle.mode.specs.Mode.{Cipher, Lawful, Source, plaintext, ciphertext, Pass, RunRecord, pass, unbroken, unbrokenTag, tagFrom, recordOf, startMask, blocksOf, padded, zeroBlock, ivPart, cipherPart, tagPart, UnbrokenCheck}
+use Rattle.mode.specs.Table.{Answer, refused, given, decide, not16, beyond, anyBeyond, apart, none, notWhole, limit}
+use Rattle.mode.specs.Calls.{Kind, middle, last, blocksOfRun, unalignedRun, Outcome, outcomeBy, joined, joinedOnto, joinedAll, joinTwo, joinList, closingTag, close, test, callsOf}
+use Rattle.mode.specs.Parallel.{Work, sealing, checking, sourceOf, ivOf, textOf, lastKind, allBlocks, Fits, Cut, Setting, WellFormed, Run, runsFrom, Segment, pending, recorded, blocksOfRuns, runsIn, recordIn, bytesIn, isRecorded, runsOf, bytesOf, blocksIn, noSegment, segment, Call, runAt, joinPair, joinMany, consecutive, AllRecorded, recordsAt, MayStand, mergeBy, recordBy, headOr, firstRun, empties, start, lent, outcomeOfRun, runOutcome, answerOf, after, afterAll, EachCall}
+use Rattle.mode.specs.Demands.{whole, wholeTag, recordOfSegments, ciphertextOfSegment, AsSaid, TestedAs, Whole, Agrees, Demand3}
+use Rattle.mode.proofs.Laws.{AllLong, all-left, all-right, mask-there}
+use Rattle.mode.proofs.Blocks.{blocksOf-append, long-blocks, padded-append, count-middle, count-last, aligned, run-long}
+use Rattle.mode.proofs.Runs.{is16, within, iv-long, Suits, GoodRun, mask0, outputOf, recordFor, part, unbroken-output, run-outcome}
+use Rattle.mode.proofs.Segments.{blocksIn-cons, blocksIn-append, blocksIn-one, three, blocks-three, one-there, recorded-inside, Recs, window, SoundAt, Sound, sound-split, sound-join, sound-at, none-beyond, not-apart, joined-all, bytes-all}
+
+-- ---- all blocks of a setting
+
+pub cipher-length : (sealed : List ℕ) → 48 ≤ length sealed → length (cipherPart sealed) ≡ length sealed - 32
+unfolding cipherPart
+cipher-length sealed h = length-take-le (length sealed - 32) (drop 16 sealed) (rw (length-drop 16 sealed) (omega arith))
+
+all-long : (w : Work) → Fits w → AllLong (allBlocks w)
+unfolding allBlocks lastKind textOf Fits blocksOfRun unalignedRun
+all-long (sealing iv message) h = run-long last message refl
+all-long (checking sealed) h =
+    let e : length (cipherPart sealed) % 16 ≡ 0 = ap (λ (n : ℕ). n % 16) (cipher-length sealed (h .0)) ∙ omega arith in
+    long-blocks (cipherPart sealed) e
+
+in-limit : (w : Work) → Fits w → length (allBlocks w) ≤ limit
+unfolding allBlocks lastKind textOf Fits blocksOfRun
+in-limit (sealing iv message) h = rw (count-last message) (omega arith)
+in-limit (checking sealed) h = rw (count-middle (cipherPart sealed), cipher-length sealed (h .0)) (omega arith)
+
+some-block : (w : Work) → Fits w → 0 < length (allBlocks w)
+unfolding allBlocks lastKind textOf Fits blocksOfRun
+some-block (sealing iv message) h = rw (count-last message) (omega arith)
+some-block (checking sealed) h = rw (count-middle (cipherPart sealed), cipher-length sealed (h .0)) (omega arith)
+
+-- ---- the rack at the start
+
+run-append : (kind : Kind) (a b : List ℕ) → length a % 16 ≡ 0 → blocksOfRun kind (a ++ b) ≡ blocksOf a ++ blocksOfRun kind b
+unfolding blocksOfRun
+run-append middle a b e = blocksOf-append a b e
+run-append last a b e = ap blocksOf (padded-append a b e) ∙ blocksOf-append a (padded b) e
+
+tail-cut : (kind : Kind) (p q : List ℕ) (ps : List (List ℕ)) → Cut kind (p ∷ q ∷ ps) → Cut kind (q ∷ ps)
+unfolding Cut
+tail-cut middle p q ps h = h .1
+tail-cut last p q ps h = h .1
+
+head-cut : (kind : Kind) (p q : List ℕ) (ps : List (List ℕ)) → Cut kind (p ∷ q ∷ ps) → length p % 16 ≡ 0
+unfolding Cut
+head-cut middle p q ps h = h .0
+head-cut last p q ps h = h .0
+
+start-blocks : (kind : Kind) (n : ℕ) (ps : List (List ℕ)) → Cut kind ps → blocksOfRuns (runsOf (empties (runsFrom kind n ps))) ≡ blocksOfRun kind (concat ps)
+unfolding Cut blocksOfRuns runsOf empties runsFrom concat runsIn blocksOfRun
+start-blocks kind n [] h = absurd h
+start-blocks kind n (p ∷ []) h = append-nil (blocksOfRun kind p) ∙ ap (blocksOfRun kind) (sym (append-nil p))
+start-blocks kind n (p ∷ q ∷ ps) h =
+    ap (λ (y : List (List ℕ)). blocksOf p ++ y) (start-blocks kind (n + length p / 16) (q ∷ ps) (tail-cut kind p q ps h))
+    ∙ sym (run-append kind p (concat (q ∷ ps)) (head-cut kind p q ps h))
+
+suits-last : (w : Work) → Suits w (lastKind w)
+unfolding Suits lastKind
+suits-last (sealing iv message) = tt
+suits-last (checking sealed) = refl
+
+suits-middle : (w : Work) → Suits w middle
+unfolding Suits
+suits-middle (sealing iv message) = tt
+suits-middle (checking sealed) = refl
+
+start-sound : (c : Cipher) (key : List ℕ) (w : Work) (kind : Kind) → Suits w kind → (before : List (List ℕ)) (n : ℕ) (ps : List (List ℕ))
+    → n ≡ length before → Cut kind ps → Sound c key w before (empties (runsFrom kind n ps))
+unfolding Cut empties runsFrom runsIn blocksOfRuns
+start-sound c key w kind su before n [] e h = absurd h
+start-sound c key w kind su before n (p ∷ []) e h = (record { starts = e; is-aligned = one kind h; suits = su }, tt)
+  where
+    one : (kind : Kind) → Cut kind (p ∷ []) → unalignedRun kind p ≡ false
+    one middle h = unfold unalignedRun in aligned p h
+    one last h = unfold unalignedRun in refl
+start-sound c key w kind su before n (p ∷ q ∷ ps) e h = (
+  record { starts = e; is-aligned = (unfold unalignedRun in aligned p (head-cut kind p q ps h)); suits = suits-middle w },
+  start-sound c key w kind su (before ++ (blocksOfRun middle p ++ [])) (n + length p / 16) (q ∷ ps) next (tail-cut kind p q ps h),
+)
+  where
+    next : n + length p / 16 ≡ length (before ++ (blocksOfRun middle p ++ []))
+    next =
+        unfold blocksOfRun in
+        rw (append-nil (blocksOf p), length-append before (blocksOf p), count-middle p, e) refl
+
+-- ---- each call
+
+pending-run : (x : Segment) → isRecorded x ≡ false → (r : Run) × (x ≡ pending r)
+unfolding isRecorded
+pending-run (pending r) e = (r, refl)
+pending-run (recorded rs r bytes) e = absurd (let z : _≡_ {A = ℕ} 0 1 = cc in omega arith)
+
+length-consecutive : (i k : ℕ) → length (consecutive i k) ≡ k
+unfolding consecutive
+length-consecutive i zero = refl
+length-consecutive i (suc k) = ap suc (length-consecutive (suc i) k)
+
+first-of : (i k : ℕ) → headOr 0 (consecutive i (suc k)) ≡ i
+unfolding headOr consecutive
+first-of i k = refl
+
+-- `same` tells equal lists
+pub same-true : (a b : List ℕ) → same a b ≡ true → a ≡ b
+unfolding same
+same-true [] [] e = refl
+same-true [] (y ∷ b) e = absurd (let z : _≡_ {A = ℕ} 0 1 = cc in omega arith)
+same-true (x ∷ a) [] e = absurd (let z : _≡_ {A = ℕ} 0 1 = cc in omega arith)
+same-true (x ∷ a) (y ∷ b) e =
+    ap₂ (λ (h : ℕ) (t : List ℕ). h ∷ t) (eqb-true x y (and-left (eqb x y) (same a b) e)) (same-true a b (and-right (eqb x y) (same a b) e))
+  where
+    and-left : (p q : Bool) → (p && q) ≡ true → p ≡ true
+    and-left true q e = refl
+    and-left false q e = e
+
+    and-right : (p q : Bool) → (p && q) ≡ true → q ≡ true
+    and-right true q e = e
+    and-right false q e = absurd (let z : _≡_ {A = ℕ} 0 1 = cc in omega arith)
+
+pub same-self : (a : List ℕ) → same a a ≡ true
+unfolding same
+same-self [] = refl
+same-self (x ∷ a) = rw (eq-eqb x x refl) (same-self a)
+
+-- a row that is not met is passed over; the last one decides
+last-row : (t : Bool) (n : ℕ) → (decide {A = Unit {0}} ((n, not t) ∷ []) tt ≡ given tt) ↔ (t ≡ true)
+unfolding decide
+last-row true n = (λ e. refl, λ e. refl)
+last-row false n = (λ e. absurd (let z : _≡_ {A = ℕ} 0 1 = cc in omega arith), λ e. absurd (let z : _≡_ {A = ℕ} 0 1 = cc in omega arith))
+
+-- what holds at every moment: each segment is sound, and together they have all blocks
+record Inv (c : Cipher) (s : Setting) (xs : List Segment) : Type 0 where
+  sound : Sound c (s .key) (s .work) [] xs
+  blocks-are : blocksIn xs ≡ allBlocks (s .work)
+
+module _ (c : Cipher) (laws : Lawful c) (s : Setting) (wf : WellFormed s) where
+  abbrev w : Work
+  w = s .work
+
+  abbrev key : List ℕ
+  key = s .key
+
+  start-inv : Inv c s (start s)
+  unfolding start
+  start-inv =
+      record {
+        sound = start-sound c key w (lastKind w) (suits-last w) [] 0 (s .pieces) refl (wf .cut);
+        blocks-are = (unfold blocksIn allBlocks in (start-blocks (lastKind w) 0 (s .pieces) (wf .cut) ∙ ap (blocksOfRun (lastKind w)) (wf .pieces-are)));
+      }
+
+  module _ (xs : List Segment) (inv : Inv c s xs) where
+    blocks-long : AllLong (blocksIn xs)
+    blocks-long = subst AllLong (sym (inv .blocks-are)) (all-long w (wf .fits))
+
+    blocks-fit : length (blocksIn xs) ≤ limit
+    blocks-fit = rw (inv .blocks-are) (in-limit w (wf .fits))
+
+    -- the part of the unbroken ciphertext that has a segment's blocks is what a pass over them there writes
+    ciphertext-there : (i : ℕ) → ciphertextOfSegment c s xs i ≡ outputOf c key w (blocksIn (take i xs)) (blocksIn (take 1 (drop i xs)))
+    unfolding ciphertextOfSegment whole
+    ciphertext-there i =
+        let e : blocksIn (take i xs) ++ (blocksIn (take 1 (drop i xs)) ++ blocksIn (drop 1 (drop i xs))) ≡ allBlocks w = blocks-three xs i 1 ∙ inv .blocks-are in
+        subst
+        (λ (bs : List (List ℕ)).
+        take (16 * length (blocksIn (take 1 (drop i xs)))) (drop (16 * length (blocksIn (take i xs))) ((unbroken c (sourceOf w) key (ivOf w) bs) .output))
+        ≡ outputOf c key w (blocksIn (take i xs)) (blocksIn (take 1 (drop i xs)))) e
+        (part c laws key (wf .key-long) w (wf .fits) (blocksIn (take i xs)) (blocksIn (take 1 (drop i xs))) (blocksIn (drop 1 (drop i xs)))
+        (subst AllLong (sym e) (all-long w (wf .fits))))
+
+    blocks-one : (i : ℕ) → i < length xs → blocksIn (take 1 (drop i xs)) ≡ blocksOfRuns (runsIn (segment xs i))
+    blocks-one i h = ap blocksIn (one-there xs i h) ∙ blocksIn-one (segment xs i)
+
+    -- a run
+    run-said : (i room : ℕ) → i < length xs → isRecorded (segment xs i) ≡ false → AsSaid c (callsOf c) s xs (runAt i room)
+    unfolding AsSaid runOutcome recordOfSegments firstRun runsIn
+    run-said i room h e =
+        ap (λ (x : Segment). outcomeOfRun (callsOf c) key w (firstRun (runsIn x)) room) is
+        ∙ run-outcome c laws key (wf .key-long) w (wf .fits) before r room good bound
+        ∙ ap₂ (λ (o : List ℕ) (a : RunRecord). outcomeBy (cond (leb (length o) (lent w room)) (given a) (refused 5)) o (lent w room))
+        (ap (outputOf c key w before) (sym these) ∙ sym (ciphertext-there i)) (ap (recordFor c key w before) (sym these))
+      where
+        before : List (List ℕ)
+        before = blocksIn (take i xs)
+
+        r : Run
+        r = (pending-run (segment xs i) e) .0
+
+        is : segment xs i ≡ pending ((pending-run (segment xs i) e) .0)
+        is = (pending-run (segment xs i) e) .1
+
+        good : GoodRun w (blocksIn (take i xs)) ((pending-run (segment xs i) e) .0)
+        good = subst (SoundAt c key w (blocksIn (take i xs))) is (sound-at c key w xs i h (inv .sound))
+
+        these : blocksIn (take 1 (drop i xs)) ≡ blocksOfRun (r .kind) (r .bytes)
+        these =
+            blocks-one i h ∙ ap (λ (x : Segment). blocksOfRuns (runsIn x)) is
+            ∙ (unfold blocksOfRuns in append-nil (blocksOfRun (r .kind) (r .bytes)))
+
+        bound : length (blocksIn (take i xs)) + length (blocksOfRun (r .kind) (r .bytes)) ≤ limit
+        bound =
+            let t : length (blocksIn (take 1 (drop i xs))) ≡ length (blocksOfRun (r .kind) (r .bytes)) = ap length these in
+            omega (
+              arith,
+              blocks-fit,
+              ap length (blocks-three xs i 1),
+              length-append (blocksIn (take i xs)) (blocksIn (take 1 (drop i xs)) ++ blocksIn (drop 1 (drop i xs))),
+              length-append (blocksIn (take 1 (drop i xs))) (blocksIn (drop 1 (drop i xs))),
+            )
+
+    put-inv : (i : ℕ) (r : RunRecord) (bytes : List ℕ) → i < length xs → r ≡ recordOfSegments c s xs i 1 → bytes ≡ ciphertextOfSegment c s xs i
+        → Inv c s (set xs i (recorded (runsIn (segment xs i)) r bytes))
+    unfolding recordOfSegments runsIn
+    put-inv i r bytes h er eb =
+        subst (Inv c s) (sym (set-split xs i new h))
+        (record {
+          sound = sound-join c key w [] (take i xs) (new ∷ drop (suc i) xs) (halves .0) (new-sound, halves .1 .1);
+          blocks-are =
+              blocksIn-append (take i xs) (new ∷ drop (suc i) xs)
+              ∙ ap (λ (b : List (List ℕ)). blocksIn (take i xs) ++ b)
+              (blocksIn-cons new (drop (suc i) xs) ∙ sym (blocksIn-cons (segment xs i) (drop (suc i) xs)))
+              ∙ sym (blocksIn-append (take i xs) (segment xs i ∷ drop (suc i) xs))
+              ∙ ap blocksIn (sym (split-at xs i noSegment h)) ∙ inv .blocks-are;
+        })
+      where
+        new : Segment
+        new = recorded (runsIn (segment xs i)) r bytes
+
+        halves : Sound c key w [] (take i xs) × Sound c key w (blocksIn (take i xs)) (segment xs i ∷ drop (suc i) xs)
+        halves = sound-split c key w [] (take i xs) (segment xs i ∷ drop (suc i) xs) (subst (Sound c key w []) (split-at xs i noSegment h) (inv .sound))
+
+        new-sound : SoundAt c key w (blocksIn (take i xs)) (recorded (runsIn (segment xs i)) r bytes)
+        new-sound = (
+          er ∙ ap (recordFor c key w (blocksIn (take i xs))) (blocks-one i h),
+          eb ∙ ciphertext-there i ∙ ap (outputOf c key w (blocksIn (take i xs))) (blocks-one i h),
+        )
+
+    run-inv : (i : ℕ) (room : ℕ) → i < length xs → (o : Outcome RunRecord) (t : Bool)
+        → o ≡ outcomeBy (cond t (given (recordOfSegments c s xs i 1)) (refused 5)) (ciphertextOfSegment c s xs i) room → Inv c s (recordBy (o .answer) o xs i)
+    run-inv i room h o true e =
+        subst (λ (o : Outcome RunRecord). Inv c s (recordBy (o .answer) o xs i)) (sym e)
+        (unfold recordBy outcomeBy in
+        put-inv i (recordOfSegments c s xs i 1) (take (length (ciphertextOfSegment c s xs i)) (ciphertextOfSegment c s xs i ++ replicate (room - length (ciphertextOfSegment c s xs i)) 0)) h refl
+        (take-append-seam (ciphertextOfSegment c s xs i) (replicate (room - length (ciphertextOfSegment c s xs i)) 0)))
+    run-inv i room h o false e =
+        subst (λ (o : Outcome RunRecord). Inv c s (recordBy (o .answer) o xs i)) (sym e) (unfold recordBy outcomeBy in inv)
+
+    -- neighbours: none beyond the limit, not apart, and joined they are the record of all their blocks
+    neighbours : (i k : ℕ) → AllRecorded xs (consecutive i (suc k))
+        → (anyBeyond (recordsAt xs (consecutive i (suc k))) ≡ false) × (apart (recordsAt xs (consecutive i (suc k))) ≡ false)
+        × (joinedAll (recordsAt xs (consecutive i (suc k))) ≡ recordOfSegments c s xs i (suc k))
+    unfolding recordOfSegments
+    neighbours i k h = (
+      none-beyond c key w xs (consecutive i (suc k)) (inv .sound) blocks-fit h,
+      ap apart (win .0) ∙ not-apart c key w (blocksIn (take i xs)) these these-sound (win .1),
+      ap joinedAll (win .0)
+          ∙ joined-all c laws key (wf .key-long) w (wf .fits) (blocksIn (take i xs)) these (rw (win .2) (omega arith)) these-sound (win .1) these-long,
+    )
+      where
+        these : List Segment
+        these = take (suc k) (drop i xs)
+
+        win : (recordsAt xs (consecutive i (suc k)) ≡ map recordIn (take (suc k) (drop i xs))) × Recs (take (suc k) (drop i xs)) × (length (take (suc k) (drop i xs)) ≡ suc k)
+        win = window xs i (suc k) h
+
+        these-sound : Sound c key w (blocksIn (take i xs)) (take (suc k) (drop i xs))
+        these-sound =
+            (sound-split c key w (blocksIn (take i xs)) (take (suc k) (drop i xs)) (drop (suc k) (drop i xs))
+            ((sound-split c key w [] (take i xs) (take (suc k) (drop i xs) ++ drop (suc k) (drop i xs)) (subst (Sound c key w []) (sym (three xs i (suc k))) (inv .sound))) .1)) .0
+
+        these-long : AllLong (blocksIn (take (suc k) (drop i xs)))
+        these-long =
+            all-left (blocksIn (take (suc k) (drop i xs))) (blocksIn (drop (suc k) (drop i xs)))
+            (all-right (blocksIn (take i xs)) (blocksIn (take (suc k) (drop i xs)) ++ blocksIn (drop (suc k) (drop i xs)))
+            (subst AllLong (sym (blocks-three xs i (suc k))) blocks-long))
+
+    merge-inv : (i k : ℕ) (a : Answer RunRecord) → AllRecorded xs (consecutive i (suc k)) → a ≡ given (recordOfSegments c s xs i (suc k)) → Inv c s (mergeBy a xs i (suc k))
+    unfolding mergeBy runsIn blocksIn recordOfSegments
+    merge-inv i k a h e =
+        subst (λ (a : Answer RunRecord). Inv c s (mergeBy a xs i (suc k))) (sym e)
+        (record {
+          sound = sound-join c key w [] (take i xs) (new ∷ rest) (outer .0) (new-sound, new-rest);
+          blocks-are =
+              blocksIn-append (take i xs) (new ∷ rest)
+              ∙ ap (λ (b : List (List ℕ)). blocksIn (take i xs) ++ b) (blocksIn-cons new rest)
+              ∙ blocks-three xs i (suc k) ∙ inv .blocks-are;
+        })
+      where
+        rest : List Segment
+        rest = drop (suc k) (drop i xs)
+
+        new : Segment
+        new = recorded (runsOf (take (suc k) (drop i xs))) (recordOfSegments c s xs i (suc k)) (bytesOf (take (suc k) (drop i xs)))
+
+        outer : Sound c key w [] (take i xs) × Sound c key w (blocksIn (take i xs)) (take (suc k) (drop i xs) ++ drop (suc k) (drop i xs))
+        outer = sound-split c key w [] (take i xs) (take (suc k) (drop i xs) ++ drop (suc k) (drop i xs)) (subst (Sound c key w []) (sym (three xs i (suc k))) (inv .sound))
+
+        inner : Sound c key w (blocksIn (take i xs)) (take (suc k) (drop i xs)) × Sound c key w (blocksIn (take i xs) ++ blocksIn (take (suc k) (drop i xs))) (drop (suc k) (drop i xs))
+        inner = sound-split c key w (blocksIn (take i xs)) (take (suc k) (drop i xs)) (drop (suc k) (drop i xs)) (outer .1)
+
+        new-sound : SoundAt c key w (blocksIn (take i xs)) new
+        new-sound =
+            (refl, bytes-all c laws key (wf .key-long) w (wf .fits) (blocksIn (take i xs)) (take (suc k) (drop i xs)) (inner .0) ((window xs i (suc k) h) .1))
+
+        new-rest : Sound c key w (blocksIn (take i xs) ++ blocksOfRuns (runsIn new)) rest
+        new-rest = inner .1
+
+    -- a join of two
+    pair-neighbours : (i j : ℕ) → AllRecorded xs (i ∷ j ∷ []) → j ≡ suc i → joinTwo (recordIn (segment xs i)) (recordIn (segment xs j)) ≡ given (recordOfSegments c s xs i 2)
+    unfolding joinTwo decide consecutive joinedAll joinedOnto
+    pair-neighbours i j h e =
+        subst (λ (j : ℕ). AllRecorded xs (i ∷ j ∷ []) → joinTwo (recordIn (segment xs i)) (recordIn (segment xs j)) ≡ given (recordOfSegments c s xs i 2)) (sym e)
+        (λ h. let n = neighbours i 1 h in
+        let b : anyBeyond (recordsAt xs (i ∷ suc i ∷ [])) ≡ false = n .0 in
+        let a : apart (recordsAt xs (i ∷ suc i ∷ [])) ≡ false = n .1 in
+        rw (b, a) (ap (λ (r : RunRecord). given r) (n .2))) h
+
+    pair-apart : (i j : ℕ) → AllRecorded xs (i ∷ j ∷ []) → apart (recordsAt xs (i ∷ j ∷ [])) ≡ true
+        → joinTwo (recordIn (segment xs i)) (recordIn (segment xs j)) ≡ refused 8
+    unfolding joinTwo decide
+    pair-apart i j h e = rw (none-beyond c key w xs (i ∷ j ∷ []) (inv .sound) blocks-fit h, e)
+
+    -- a join of a list
+    list-neighbours : (is : List ℕ) → AllRecorded xs is → (i k : ℕ) → is ≡ consecutive i (suc k) → joinList (recordsAt xs is) ≡ given (recordOfSegments c s xs i (suc k))
+    list-neighbours is h i k e =
+        subst (λ (is : List ℕ). AllRecorded xs is → joinList (recordsAt xs is) ≡ given (recordOfSegments c s xs i (suc k))) (sym e)
+        (λ h. let n = neighbours i k h in
+        unfold joinList decide in rw (n .0, n .1) (unfold none consecutive in (ap (λ (r : RunRecord). given r) (n .2)))) h
+
+    list-empty : (is : List ℕ) → is ≡ [] → joinList (recordsAt xs is) ≡ refused 9
+    unfolding joinList decide anyBeyond apart none
+    list-empty is e = rw e
+
+    list-apart : (is : List ℕ) → AllRecorded xs is → apart (recordsAt xs is) ≡ true → joinList (recordsAt xs is) ≡ refused 8
+    unfolding joinList decide
+    list-apart is h e = rw (none-beyond c key w xs is (inv .sound) blocks-fit h, e)
+
+    refused-inv : (a : Answer RunRecord) (n i k : ℕ) → a ≡ refused n → Inv c s (mergeBy a xs i k)
+    refused-inv a n i k e = subst (λ (a : Answer RunRecord). Inv c s (mergeBy a xs i k)) (sym e) (unfold mergeBy in inv)
+
+    -- one call
+    step : (call : Call) → MayStand xs call → AsSaid c (callsOf c) s xs call × Inv c s (after (callsOf c) s xs call)
+    unfolding MayStand after answerOf
+    step (runAt i room) m = (
+      run-said i room (m .0) (m .1),
+      run-inv i (lent w room) (m .0) (runOutcome (callsOf c) s xs i room) (leb (length (ciphertextOfSegment c s xs i)) (lent w room)) (unfold AsSaid in (run-said i room (m .0) (m .1))),
+    )
+    step (joinPair i j) m =
+        (unfold AsSaid in (pair-neighbours i j (m .0), pair-apart i j (m .0)), by (m .1))
+      where
+        by : (j ≡ suc i) ⊎ (apart (recordsAt xs (i ∷ j ∷ [])) ≡ true) → Inv c s (mergeBy (joinTwo (recordIn (segment xs i)) (recordIn (segment xs j))) xs i 2)
+        by (inl e) =
+            merge-inv i 1 (joinTwo (recordIn (segment xs i)) (recordIn (segment xs j)))
+            (unfold consecutive in (subst (λ (j : ℕ). AllRecorded xs (i ∷ j ∷ [])) e (m .0))) (pair-neighbours i j (m .0) e)
+        by (inr e) = refused-inv (joinTwo (recordIn (segment xs i)) (recordIn (segment xs j))) 8 i 2 (pair-apart i j (m .0) e)
+    step (joinMany is) m =
+        (unfold AsSaid in (list-neighbours is (m .0), list-empty is, list-apart is (m .0)), by (m .1))
+      where
+        many : (i k : ℕ) → is ≡ consecutive i (suc k) → Inv c s (mergeBy (joinList (recordsAt xs is)) xs (headOr 0 is) (length is))
+        many i k e =
+            let hd : headOr 0 is ≡ i = ap (headOr 0) e ∙ first-of i k in
+            subst (λ (n : ℕ). Inv c s (mergeBy (joinList (recordsAt xs is)) xs n (length is))) (sym hd)
+            (subst (λ (n : ℕ). Inv c s (mergeBy (joinList (recordsAt xs is)) xs i n)) (sym (ap length e ∙ length-consecutive i (suc k)))
+            (merge-inv i k (joinList (recordsAt xs is)) (subst (AllRecorded xs) e (m .0)) (list-neighbours is (m .0) i k e)))
+
+        by : ((i : ℕ) × (k : ℕ) × (is ≡ consecutive i (suc k))) ⊎ ((is ≡ []) ⊎ (apart (recordsAt xs is) ≡ true))
+            → Inv c s (mergeBy (joinList (recordsAt xs is)) xs (headOr 0 is) (length is))
+        by (inl n) = many (n .0) (n .1) (n .2)
+        by (inr (inl e)) = refused-inv (joinList (recordsAt xs is)) 9 (headOr 0 is) (length is) (list-empty is e)
+        by (inr (inr e)) = refused-inv (joinList (recordsAt xs is)) 8 (headOr 0 is) (length is) (list-apart is (m .0) e)
+
+  -- any list of calls
+  steps : (xs : List Segment) (calls : List Call) → Inv c s xs → EachCall (callsOf c) s MayStand xs calls
+      → EachCall (callsOf c) s (AsSaid c (callsOf c) s) xs calls × Inv c s (afterAll (callsOf c) s xs calls)
+  unfolding EachCall afterAll
+  steps xs [] inv m = (tt, inv)
+  steps xs (call ∷ calls) inv m =
+      let one = step xs inv call (m .0) in
+      let rest = steps (after (callsOf c) s xs call) calls (one .1) (m .1) in
+      ((one .0, rest .0), rest .1)
+
+  -- every record and every ciphertext
+  record-there : (xs : List Segment) → Inv c s xs → (i : ℕ) → isRecorded (segment xs i) ≡ true
+      → (recordIn (segment xs i) ≡ recordOfSegments c s xs i 1) × (bytesIn (segment xs i) ≡ ciphertextOfSegment c s xs i)
+  unfolding recordOfSegments
+  record-there xs inv i e =
+      let h : i < length xs = recorded-inside xs i e in
+      let r = by (blocksIn (take i xs)) (segment xs i) e (sound-at c key w xs i h (inv .sound)) in (
+        r .0 ∙ ap (recordFor c key w (blocksIn (take i xs))) (sym (blocks-one xs inv i h)),
+        r .1 ∙ ap (outputOf c key w (blocksIn (take i xs))) (sym (blocks-one xs inv i h)) ∙ sym (ciphertext-there xs inv i),
+      )
+    where
+      by : (before : List (List ℕ)) (x : Segment) → isRecorded x ≡ true → SoundAt c key w before x
+          → (recordIn x ≡ recordFor c key w before (blocksOfRuns (runsIn x))) × (bytesIn x ≡ outputOf c key w before (blocksOfRuns (runsIn x)))
+      by before (pending r) e h = absurd (let z : _≡_ {A = ℕ} 0 1 = (unfold isRecorded in cc) in omega arith)
+      by before (recorded rs r bytes) e h = unfold recordIn bytesIn runsIn in h
+
+  -- the whole record closes into the unbroken tag
+  closing : closingTag c key (ivOf w) (recordFor c key w [] (allBlocks w)) ≡ wholeTag c s
+  unfolding closingTag wholeTag unbrokenTag recordOf unbroken pass
+  closing =
+      ap (tagFrom c key ((pass c (sourceOf w) key (allBlocks w) (startMask c key (ivOf w)) zeroBlock) .preauthenticator))
+      (sym (unfold unbroken in (mask-there c laws (sourceOf w) key (wf .key-long) (ivOf w) (iv-long w (wf .fits)) (allBlocks w))))
+
+  not-part : notWhole (recordFor c key w [] (allBlocks w)) ≡ false
+  unfolding notWhole recordOf
+  not-part = ne-eqb (length (allBlocks w)) 0 (λ e. let h : 0 < length (allBlocks w) = some-block w (wf .fits) in omega arith)
+
+  not-beyond : beyond ((recordFor c key w [] (allBlocks w)) .first) ((recordFor c key w [] (allBlocks w)) .count) ≡ false
+  unfolding recordOf
+  not-beyond = within 0 (length (allBlocks w)) (let h : length (allBlocks w) ≤ limit = in-limit w (wf .fits) in omega arith)
+
+  closed : close c key (ivOf w) (recordFor c key w [] (allBlocks w)) ≡ given (wholeTag c s)
+  unfolding close decide
+  closed =
+      rw (is16 key (wf .key-long), is16 (ivOf w) (iv-long w (wf .fits)), not-beyond, not-part) (ap (λ (t : List ℕ). given t) closing)
+
+  -- a tag of 16 bytes passes exactly when it is the unbroken one
+  tested : (tag : List ℕ) → length tag ≡ 16 → (test c key (ivOf w) (recordFor c key w [] (allBlocks w)) tag ≡ given tt) ↔ (wholeTag c s ≡ tag)
+  tested tag h = (
+    λ e. sym closing ∙ same-true (closingTag c key (ivOf w) (recordFor c key w [] (allBlocks w))) tag ((last-row (same (closingTag c key (ivOf w) (recordFor c key w [] (allBlocks w))) tag) 6) .0 (sym rows ∙ e)),
+    λ e. rows ∙ (last-row (same (closingTag c key (ivOf w) (recordFor c key w [] (allBlocks w))) tag) 6) .1
+        (subst (λ (t : List ℕ). same (closingTag c key (ivOf w) (recordFor c key w [] (allBlocks w))) t ≡ true) (closing ∙ e) (same-self (closingTag c key (ivOf w) (recordFor c key w [] (allBlocks w))))),
+  )
+    where
+      rows : test c key (ivOf w) (recordFor c key w [] (allBlocks w)) tag
+          ≡ decide ((6, not (same (closingTag c key (ivOf w) (recordFor c key w [] (allBlocks w))) tag)) ∷ []) tt
+      rows =
+          unfold test decide in
+          rw (is16 key (wf .key-long), is16 (ivOf w) (iv-long w (wf .fits)), is16 tag h, not-beyond, not-part)
+
+  tag-long : (sealed : List ℕ) → Fits (checking sealed) → length (tagPart sealed) ≡ 16
+  unfolding Fits tagPart
+  tag-long sealed h = length-drop (length sealed - 16) sealed ∙ omega arith
+
+  tested-as : (v : Work) → Fits v → (r : RunRecord)
+      → ((tag : List ℕ) → length tag ≡ 16 → (test c key (ivOf v) r tag ≡ given tt) ↔ (unbrokenTag c (sourceOf v) key (ivOf v) (allBlocks v) ≡ tag))
+      → TestedAs c (callsOf c) key v r
+  unfolding TestedAs ivOf sourceOf allBlocks lastKind textOf blocksOfRun UnbrokenCheck
+  tested-as (sealing iv message) fit r h = h
+  tested-as (checking sealed) fit r h = h (tagPart sealed) (tag-long sealed fit)
+
+  -- a single record is the whole one
+  single-whole : (rs : List Run) (r : RunRecord) (bytes : List ℕ) → Inv c s (recorded rs r bytes ∷ []) → Whole c (callsOf c) s r bytes
+  single-whole rs r bytes inv =
+      record {
+        ciphertext-whole = inv .sound .0 .1 ∙ ap (outputOf c key w []) all ∙ sym (unfold whole in (unbroken-output c laws key (wf .key-long) w (wf .fits) (allBlocks w)));
+        closes-whole = rw is closed;
+        tests-whole = tested-as w (wf .fits) r (rw is (unfold wholeTag in tested));
+      }
+    where
+      all : blocksOfRuns rs ≡ allBlocks w
+      all = sym (blocksIn-one (recorded rs r bytes) ∙ runs-in) ∙ inv .blocks-are
+        where
+          runs-in : blocksOfRuns (runsIn (recorded rs r bytes)) ≡ blocksOfRuns rs
+          runs-in = unfold runsIn in refl
+
+      is : r ≡ recordFor c key w [] (allBlocks w)
+      is = inv .sound .0 .0 ∙ ap (recordFor c key w []) all
+
+-- DEMAND 3
+pub demand3 : (c : Cipher) → Lawful c → Demand3 c (callsOf c)
+demand3 c laws s wf calls may =
+    record {
+      answers = all .0;
+      blocks-are = all .1 .blocks-are;
+      records = λ i e. (record-there c laws s wf (afterAll (callsOf c) s (start s) calls) (all .1) i e) .0;
+      ciphertexts = λ i e. (record-there c laws s wf (afterAll (callsOf c) s (start s) calls) (all .1) i e) .1;
+      single = λ rs r bytes e. single-whole c laws s wf rs r bytes (subst (Inv c s) e (all .1));
+    }
+  where
+    all : EachCall (callsOf c) s (AsSaid c (callsOf c) s) (start s) calls × Inv c s (afterAll (callsOf c) s (start s) calls)
+    all = steps c laws s wf (start s) calls (start-inv c laws s wf) may

@@ -1,0 +1,11 @@
+pub mod Aes
+pub mod Laws
+pub mod Blocks
+pub mod Runs
+pub mod Segments
+pub mod Demand3
+pub mod Bytes
+pub mod Demand2
+pub mod Records
+pub mod Demands
+pub mod Witness

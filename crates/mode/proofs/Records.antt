@@ -1,0 +1,150 @@
+-- Laws of records made in any way: grouping does not matter, a join stays within the limit, an empty right neighbour changes nothing;
+-- and checking a run's ciphertext gives the record that sealing it gave.
+use mathlib.Core.Path.{_≡_, refl, sym, ap, ap₂, subst, _∙_}
+use mathlib.Core.List.{List, [], _∷_, _++_}
+use mathlib.Core.Bool.{Bool, true, false, cond, not, _||_}
+use Prim.Native.Nat.{ℕ, zero, suc, _+_, _*_, _-_, _/_, _%_, _≤_, _<_}
+use native.Mathlib.Nat.{add-assoc, add-comm, add-zero}
+use native.Mathlib.Omega.{arith}
+use lib.ListN.{length, take, replicate}
+use lib.Seq.{take-append-seam}
+use lib.Dec.{eqb, ltb}
+use borrow.Author.Tests.{eqb-true, ltb-false, not-false}
+use Rattle.blocks.specs.Bytes.{xorBytes, Bytes, Block, concat}
+use Rattle.blocks.specs.Gf128.{timesX, jump}
+use Rattle.blocks.proofs.XorBytes.{xorBytes-assoc, xorBytes-zeros}
+use Rattle.blocks.proofs.TimesX.{jump-xor, jump-add, length-jump, block-jump}
+use Rattle.mode.specs.Mode.{Cipher, Lawful, Source, plaintext, ciphertext, Pass, RunRecord, zeroBlock, startMask, pass, blocksOf, padded}
+use Rattle.mode.specs.Table.{Answer, refused, given, decide, not16, unaligned, beyond, anyBeyond, apart, limit, none}
+use Rattle.mode.specs.Calls.{unalignedRun, joined, joinedOnto, joinedAll, joinList, Kind, middle, last, blocksOfRun, Outcome, outcomeBy, passFrom, runRecord, sealRun, checkRun}
+use Rattle.mode.proofs.Laws.{same-record}
+use Rattle.mode.proofs.Blocks.{length-padded, aligned}
+use Rattle.mode.proofs.Runs.{is16}
+use Rattle.mode.proofs.Bytes.{AllBlocks, good-blocks, bytes-padded, blocks-concat, length-concat}
+use Rattle.mode.proofs.Demand2.{Passed, given-rows, passed-rows, sealedBlocks, same-preauthenticator, sealed-good, output-is, length-sealed, start-block, or-false}
+
+-- joining is independent of grouping
+pub joined-assoc : (a b c : RunRecord) → length (a .preauthenticator) ≡ 16 → length (b .preauthenticator) ≡ 16 → joined (joined a b) c ≡ joined a (joined b c)
+unfolding joined
+joined-assoc a b c ha hb =
+    same-record (joined (joined a b) c) (joined a (joined b c)) refl (add-assoc (a .count) (b .count) (c .count))
+    (ap (λ (x : List ℕ). xorBytes x (c .preauthenticator))
+    (jump-xor (c .count) (jump (b .count) (a .preauthenticator)) (b .preauthenticator) (length-jump (b .count) (a .preauthenticator) ha) hb
+    ∙ ap (λ (x : List ℕ). xorBytes x (jump (c .count) (b .preauthenticator)))
+    (sym (jump-add (c .count) (b .count) (a .preauthenticator)) ∙ ap (λ (n : ℕ). jump n (a .preauthenticator)) (add-comm (c .count) (b .count))))
+    ∙ xorBytes-assoc (jump (b .count + c .count) (a .preauthenticator)) (jump (c .count) (b .preauthenticator)) (c .preauthenticator))
+
+-- card (j), of every record
+pub joined-empty : (a : RunRecord) (first : ℕ) → length (a .preauthenticator) ≡ 16 → joined a (record { first = first; count = 0; preauthenticator = zeroBlock }) ≡ a
+unfolding joined jump
+joined-empty a first h =
+    same-record (joined a (record { first = first; count = 0; preauthenticator = zeroBlock })) a refl (add-zero (a .count)) (xorBytes-zeros 16 (a .preauthenticator) h)
+
+-- a joined list is within the limit again: its sums need no more than 32 bits
+onto-within : (l : RunRecord) (rs : List RunRecord) → l .first + l .count ≤ limit → anyBeyond rs ≡ false → apart (l ∷ rs) ≡ false
+    → (joinedOnto l rs) .first + (joinedOnto l rs) .count ≤ limit
+unfolding joinedOnto anyBeyond apart beyond joined
+onto-within l [] h b a = h
+onto-within l (r ∷ rs) h b a =
+    let u = or-false (ltb limit (r .first + r .count)) (anyBeyond rs) b in
+    let v = or-false (not (eqb (l .first + l .count) (r .first))) (apart (r ∷ rs)) a in
+    let e : l .first + l .count ≡ r .first = eqb-true (l .first + l .count) (r .first) (not-false (eqb (l .first + l .count) (r .first)) (v .0)) in
+    let k : r .first + r .count ≤ limit = ltb-false limit (r .first + r .count) (u .0) in
+    onto-within (joined l r) rs (omega arith) (u .1) (next rs e (v .1))
+  where
+    next : (rs : List RunRecord) → l .first + l .count ≡ r .first → apart (r ∷ rs) ≡ false → apart (joined l r ∷ rs) ≡ false
+    next [] e a = refl
+    next (q ∷ qs) e a =
+        let n : l .first + (l .count + r .count) ≡ r .first + r .count = omega arith in
+        rw n a
+
+pub list-within : (rs : List RunRecord) (r : RunRecord) → joinList rs ≡ given r → r .first + r .count ≤ limit
+unfolding joinList
+list-within [] r e = absurd (let z = (given-rows ((4, anyBeyond []) ∷ (8, apart []) ∷ (9, none []) ∷ []) (joinedAll []) r e) .0 .1 .1 .0 in bad (unfold none in z))
+  where
+    bad : true ≡ false → ⊥
+    bad e = let z : _≡_ {A = ℕ} 0 1 = cc in omega arith
+list-within (l ∷ rs) r e =
+    let g = given-rows ((4, anyBeyond (l ∷ rs)) ∷ (8, apart (l ∷ rs)) ∷ (9, none (l ∷ rs)) ∷ []) (joinedAll (l ∷ rs)) r e in
+    let u = or-false (beyond (l .first) (l .count)) (anyBeyond rs) (unfold anyBeyond in (g .0 .0)) in
+    let k : l .first + l .count ≤ limit = ltb-false limit (l .first + l .count) (unfold beyond in (u .0)) in
+    subst (λ (r : RunRecord). r .first + r .count ≤ limit) (g .1) (unfold joinedAll in (onto-within l rs k (u .1) (g .0 .1 .0)))
+
+-- ---- checking what was sealed
+
+run-blocks : (kind : Kind) (bytes : List ℕ) → Bytes bytes → unalignedRun kind bytes ≡ false → AllBlocks (blocksOfRun kind bytes)
+unfolding blocksOfRun unalignedRun unaligned
+run-blocks middle bytes h e = good-blocks bytes (eqb-true (length bytes % 16) 0 (not-false (eqb (length bytes % 16) 0) e)) h
+run-blocks last bytes h e = good-blocks (padded bytes) (ap (λ (k : ℕ). k % 16) (length-padded bytes) ∙ omega arith) (bytes-padded bytes h)
+
+by-answer : (a : Answer RunRecord) (out : List ℕ) (room : ℕ) (r : RunRecord) → (outcomeBy a out room) .answer ≡ given r
+    → (a ≡ given r) × (take ((outcomeBy a out room) .reported) ((outcomeBy a out room) .output) ≡ out)
+unfolding outcomeBy
+by-answer (refused n) out room r e = absurd (let z : _≡_ {A = ℕ} 0 1 = cc in omega arith)
+by-answer (given q) out room r e = (e, take-append-seam out (replicate (room - length out) 0))
+
+-- checking a run's ciphertext gives the record that sealing it gave
+pub checked-as-sealed : (c : Cipher) → Lawful c → (key iv : List ℕ) → Block key → Block iv → (first : ℕ) (kind : Kind) (bytes : List ℕ) (room : ℕ) → Bytes bytes
+    → (r : RunRecord) → (sealRun c key iv first kind bytes room) .answer ≡ given r
+    → checkRun c key iv first (take ((sealRun c key iv first kind bytes room) .reported) ((sealRun c key iv first kind bytes room) .output)) ≡ given r
+unfolding sealRun
+checked-as-sealed c laws key iv kb ib first kind bytes room hb r e =
+    ap (checkRun c key iv first) (a .1) ∙ passes
+    ∙ ap (λ (x : RunRecord). given x) (same ∙ g .1)
+  where
+    bs : List (List ℕ)
+    bs = blocksOfRun kind bytes
+
+    rows : List (ℕ × Bool)
+    rows =
+        (1, not16 key) ∷ (2, not16 iv) ∷ (3, unalignedRun kind bytes) ∷ (4, beyond first (length (blocksOfRun kind bytes))) ∷ (5, ltb room (16 * length (blocksOfRun kind bytes))) ∷ []
+
+    text : List ℕ
+    text = (passFrom c plaintext key iv first (blocksOfRun kind bytes)) .output
+
+    a : (decide rows (runRecord c plaintext key iv first bs) ≡ given r)
+        × (take ((outcomeBy (decide rows (runRecord c plaintext key iv first bs)) text room) .reported) ((outcomeBy (decide rows (runRecord c plaintext key iv first bs)) text room) .output) ≡ text)
+    a = by-answer (decide rows (runRecord c plaintext key iv first bs)) text room r e
+
+    g : Passed rows × (runRecord c plaintext key iv first bs ≡ r)
+    g = given-rows rows (runRecord c plaintext key iv first bs) r (a .0)
+
+    good : AllBlocks (blocksOfRun kind bytes)
+    good = run-blocks kind bytes hb (g .0 .1 .1 .0)
+
+    mask : List ℕ
+    mask = jump first (startMask c key iv)
+
+    mask-block : Block (jump first (startMask c key iv))
+    mask-block = block-jump first (startMask c key iv) (start-block c laws key kb iv ib)
+
+    cs : List (List ℕ)
+    cs = sealedBlocks c laws key kb (blocksOfRun kind bytes) (jump first (startMask c key iv))
+
+    cs-good : AllBlocks (sealedBlocks c laws key kb (blocksOfRun kind bytes) (jump first (startMask c key iv)))
+    cs-good = sealed-good c laws key kb bs mask good mask-block
+
+    text-is : text ≡ concat cs
+    text-is = unfold passFrom in (output-is c laws key kb bs mask zeroBlock)
+
+    blocks-are : blocksOf text ≡ cs
+    blocks-are = ap blocksOf text-is ∙ blocks-concat cs cs-good
+
+    text-aligned : length text % 16 ≡ 0
+    text-aligned = ap (λ (l : List ℕ). length l % 16) text-is ∙ ap (λ (n : ℕ). n % 16) (length-concat cs cs-good) ∙ omega arith
+
+    four : beyond first (length (blocksOf text)) ≡ false
+    four = ap (λ (l : List (List ℕ)). beyond first (length l)) blocks-are ∙ ap (beyond first) (length-sealed c laws key kb bs mask) ∙ g .0 .1 .1 .1 .0
+
+    same : runRecord c ciphertext key iv first (blocksOf text) ≡ runRecord c plaintext key iv first bs
+    same =
+        ap (runRecord c ciphertext key iv first) blocks-are
+        ∙ (unfold runRecord passFrom in
+        same-record (runRecord c ciphertext key iv first cs) (runRecord c plaintext key iv first bs) refl (length-sealed c laws key kb bs mask)
+        (same-preauthenticator c laws key kb bs mask zeroBlock good mask-block))
+
+    passes : checkRun c key iv first text ≡ given (runRecord c ciphertext key iv first (blocksOf text))
+    passes =
+        unfold checkRun in
+        passed-rows ((1, not16 key) ∷ (2, not16 iv) ∷ (3, unaligned text) ∷ (4, beyond first (length (blocksOf text))) ∷ []) (runRecord c ciphertext key iv first (blocksOf text))
+        (is16 key (kb .long), (is16 iv (ib .long), (aligned text text-aligned, (four, tt))))

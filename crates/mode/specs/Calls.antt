@@ -1,0 +1,258 @@
+-- What each call answers: a total function of the contents handed in and of the length of the lent output, and of nothing else.
+use mathlib.Core.Path.{_≡_}
+use mathlib.Core.Option.{Option, some, none as no-message}
+use mathlib.Core.List.{List, [], _∷_, _++_}
+use mathlib.Core.Bool.{Bool, true, false, cond, not}
+use Prim.Native.Nat.{ℕ, zero, suc, _+_, _*_, _-_, _/_, _%_}
+use lib.ListN.{length, take}
+use lib.Dec.{ltb}
+use Rattle.blocks.specs.Bytes.{xorBytes, same, zeros}
+use Rattle.blocks.specs.Gf128.{timesX, jump}
+use Rattle.mode.specs.Mode.{Cipher, Source, plaintext, ciphertext, Pass, RunRecord, blocksOf, padded, zeroBlock, startMask, middletext, pass, tagFrom, unbrokenTag, sealedRecord, ivPart, cipherPart, tagPart}
+use Rattle.mode.specs.Table.{Answer, refused, given, decide, limit, not16, unaligned, tooLong, notSealed, beyond, anyBeyond, apart, none, notWhole, tooShort}
+-- the code's answers, as it declares them
+pub use Rattle.mode.specs.declared.Written.{Written}
+pub use Rattle.mode.specs.declared.RunAnswer.{RunAnswer}
+pub use Rattle.mode.specs.declared.RecordAnswer.{RecordAnswer}
+pub use Rattle.mode.specs.declared.TagAnswer.{TagAnswer}
+
+-- what a call that writes comes to: its answer, the number of answer bytes (0 beside a refusal) and the whole lent output
+pub record Outcome (A : Type 0) : Type 0 where
+  pub answer : Answer A
+  pub reported : ℕ
+  pub output : List ℕ
+
+-- on success these bytes, and zeros beyond them; all zeros on refusal
+unfoldable pub outcomeBy : {A : Type 0} → Answer A → List ℕ → ℕ → Outcome A
+outcomeBy (refused number) bytes room = record { answer = refused number; reported = 0; output = zeros room }
+outcomeBy (given a) bytes room = record { answer = given a; reported = length bytes; output = bytes ++ zeros (room - length bytes) }
+
+-- ---- runs
+
+-- a middle run is a multiple of 16 bytes; a last run has any length and gets the padding
+pub data Kind : Type 0 where
+  middle last : Kind
+
+unfoldable pub blocksOfRun : Kind → List ℕ → List (List ℕ)
+blocksOfRun middle bytes = blocksOf bytes
+blocksOfRun last bytes = blocksOf (padded bytes)
+
+unfoldable pub unalignedRun : Kind → List ℕ → Bool
+unalignedRun middle bytes = unaligned bytes
+unalignedRun last bytes = false
+
+abbrev pub sealRunRows : List ℕ → List ℕ → ℕ → Kind → List ℕ → ℕ → List (ℕ × Bool)
+sealRunRows key iv first kind bytes room =
+    (1, not16 key)
+    ∷ (2, not16 iv)
+    ∷ (3, unalignedRun kind bytes)
+    ∷ (4, beyond first (length (blocksOfRun kind bytes)))
+    ∷ (5, tooShort room (16 * length (blocksOfRun kind bytes)))
+    ∷ []
+
+abbrev pub checkRunRows : List ℕ → List ℕ → ℕ → List ℕ → List (ℕ × Bool)
+checkRunRows key iv first bytes =
+    (1, not16 key)
+    ∷ (2, not16 iv)
+    ∷ (3, unaligned bytes)
+    ∷ (4, beyond first (length (blocksOf bytes)))
+    ∷ []
+
+module _ (c : Cipher) where
+  -- step 2 over a run that starts at block `first`: its mask is the start mask jumped by `first`
+  unfoldable pub passFrom : Source → List ℕ → List ℕ → ℕ → List (List ℕ) → Pass
+  passFrom s key iv first blocks = pass c s key blocks (jump first (startMask c key iv)) zeroBlock
+
+  unfoldable pub runRecord : Source → List ℕ → List ℕ → ℕ → List (List ℕ) → RunRecord
+  runRecord s key iv first blocks =
+      record { first = first; count = length blocks; preauthenticator = (passFrom s key iv first blocks) .preauthenticator }
+
+  -- SEAL A RUN
+  unfoldable pub sealRun : List ℕ → List ℕ → ℕ → Kind → List ℕ → ℕ → Outcome RunRecord
+  sealRun key iv first kind bytes room =
+      let blocks = blocksOfRun kind bytes in
+      outcomeBy (decide (sealRunRows key iv first kind bytes room) (runRecord plaintext key iv first blocks)) ((passFrom plaintext key iv first blocks) .output) room
+
+  -- CHECK A RUN of ciphertext: the record that sealing would give, and no plaintext
+  unfoldable pub checkRun : List ℕ → List ℕ → ℕ → List ℕ → Answer RunRecord
+  checkRun key iv first bytes = decide (checkRunRows key iv first bytes) (runRecord ciphertext key iv first (blocksOf bytes))
+
+-- ---- records
+
+-- Joining left and right: the left one's first block, the counts added, the left pre-authenticator multiplied by the variable as many
+-- times as the right has blocks, plus the right one.
+unfoldable pub joined : RunRecord → RunRecord → RunRecord
+joined l r =
+    record { first = l .first; count = l .count + r .count; preauthenticator = xorBytes (jump (r .count) (l .preauthenticator)) (r .preauthenticator) }
+
+unfoldable pub joinedOnto : RunRecord → List RunRecord → RunRecord
+joinedOnto l [] = l
+joinedOnto l (r ∷ rs) = joinedOnto (joined l r) rs
+
+-- what stands where there is no record
+abbrev pub blank : RunRecord
+blank = record { first = 0; count = 0; preauthenticator = zeroBlock }
+
+-- a list from the left; a list of one record gives that record
+unfoldable pub joinedAll : List RunRecord → RunRecord
+joinedAll [] = blank
+joinedAll (r ∷ rs) = joinedOnto r rs
+
+-- JOIN two records
+abbrev pub joinTwoRows : RunRecord → RunRecord → List (ℕ × Bool)
+joinTwoRows l r = (4, anyBeyond (l ∷ r ∷ [])) ∷ (8, apart (l ∷ r ∷ [])) ∷ []
+
+unfoldable pub joinTwo : RunRecord → RunRecord → Answer RunRecord
+joinTwo l r = decide (joinTwoRows l r) (joined l r)
+
+-- JOIN A LENT LIST: row 4 of any record beats row 8 of any pair
+abbrev pub joinListRows : List RunRecord → List (ℕ × Bool)
+joinListRows rs = (4, anyBeyond rs) ∷ (8, apart rs) ∷ (9, none rs) ∷ []
+
+unfoldable pub joinList : List RunRecord → Answer RunRecord
+joinList rs = decide (joinListRows rs) (joinedAll rs)
+
+abbrev pub closeRows : List ℕ → List ℕ → RunRecord → List (ℕ × Bool)
+closeRows key iv r =
+    (1, not16 key)
+    ∷ (2, not16 iv)
+    ∷ (4, beyond (r .first) (r .count))
+    ∷ (9, notWhole r)
+    ∷ []
+
+module _ (c : Cipher) where
+  -- the tag of a whole record
+  unfoldable pub closingTag : List ℕ → List ℕ → RunRecord → List ℕ
+  closingTag key iv r = tagFrom c key (r .preauthenticator) (jump (r .count) (startMask c key iv))
+
+  -- CLOSE a record into its tag
+  unfoldable pub close : List ℕ → List ℕ → RunRecord → Answer (List ℕ)
+  close key iv r = decide (closeRows key iv r) (closingTag key iv r)
+
+  -- TEST a tag against a record: it passes if closing gives that tag
+  abbrev pub testRows : List ℕ → List ℕ → RunRecord → List ℕ → List (ℕ × Bool)
+  testRows key iv r tag =
+      (1, not16 key)
+      ∷ (2, not16 iv)
+      ∷ (3, not16 tag)
+      ∷ (4, beyond (r .first) (r .count))
+      ∷ (9, notWhole r)
+      ∷ (6, not (same (closingTag key iv r) tag))
+      ∷ []
+
+  unfoldable pub test : List ℕ → List ℕ → RunRecord → List ℕ → Answer (Unit {0})
+  test key iv r tag = decide (testRows key iv r tag) tt
+
+-- ---- whole lists
+
+-- the message of which `padded` gives these bytes, looked for among those that are up to k bytes shorter
+unfoldable pub unpadFrom : ℕ → List ℕ → Option (List ℕ)
+unpadFrom zero bytes = no-message
+unpadFrom (suc k) bytes =
+    let message = take (length bytes - suc k) bytes in
+    cond (same (padded message) bytes) (some message) (unpadFrom k bytes)
+
+-- the message of which `padded` gives these bytes
+unfoldable pub unpadded : List ℕ → Option (List ℕ)
+unpadded bytes = unpadFrom 16 bytes
+
+-- 7: not padded as above
+unfoldable pub notPadded : Option (List ℕ) → Bool
+notPadded no-message = true
+notPadded (some message) = false
+
+unfoldable pub orEmpty : Option (List ℕ) → List ℕ
+orEmpty no-message = []
+orEmpty (some message) = message
+
+module _ (c : Cipher) where
+  abbrev pub sealRows : List ℕ → List ℕ → List ℕ → ℕ → List (ℕ × Bool)
+  sealRows key iv message room =
+      (1, not16 key)
+      ∷ (2, not16 iv)
+      ∷ (3, tooLong message)
+      ∷ (5, tooShort room (length (sealedRecord c key iv message)))
+      ∷ []
+
+  -- SEAL a message: the answer is the sealed record
+  unfoldable pub seal : List ℕ → List ℕ → List ℕ → ℕ → Outcome (List ℕ)
+  seal key iv message room = outcomeBy (decide (sealRows key iv message room) (sealedRecord c key iv message)) (sealedRecord c key iv message) room
+
+  -- the plaintext: the first half run backwards on the middletext, plus the mask
+  unfoldable pub decrypted : List ℕ → List (List ℕ) → List ℕ → List ℕ
+  decrypted key [] mask = []
+  decrypted key (block ∷ blocks) mask =
+      xorBytes (c .firstHalfBack key (middletext c ciphertext key mask block)) mask ++ decrypted key blocks (timesX mask)
+
+  unfoldable pub plaintextOf : List ℕ → List ℕ → List ℕ
+  plaintextOf key sealed = decrypted key (blocksOf (cipherPart sealed)) (startMask c key (ivPart sealed))
+
+  unfoldable pub openRows : List ℕ → List ℕ → ℕ → List (ℕ × Bool)
+  openRows key sealed room =
+      (1, not16 key)
+      ∷ (3, notSealed sealed)
+      ∷ (5, tooShort room (length (cipherPart sealed)))
+      ∷ (6, not (same (unbrokenTag c ciphertext key (ivPart sealed) (blocksOf (cipherPart sealed))) (tagPart sealed)))
+      ∷ (7, notPadded (unpadded (plaintextOf key sealed)))
+      ∷ []
+
+  -- OPEN a sealed record: the answer is the message
+  unfoldable pub openSealed : List ℕ → List ℕ → ℕ → Outcome (List ℕ)
+  openSealed key sealed room =
+      let message = orEmpty (unpadded (plaintextOf key sealed)) in
+      outcomeBy (decide (openRows key sealed room) message) message room
+
+-- ---- masks
+
+abbrev pub jumpRows : List ℕ → ℕ → ℕ → List (ℕ × Bool)
+jumpRows mask distance room = (3, not16 mask) ∷ (4, ltb limit distance) ∷ (5, tooShort room 16) ∷ []
+
+-- JUMP a mask
+unfoldable pub jumpMask : List ℕ → ℕ → ℕ → Outcome (List ℕ)
+jumpMask mask distance room = outcomeBy (decide (jumpRows mask distance room) (jump distance mask)) (jump distance mask) room
+
+-- ---- the calls of which demand 3 speaks, any way they may answer
+
+pub record Calls : Type 0 where
+  pub seals-run : List ℕ → List ℕ → ℕ → Kind → List ℕ → ℕ → Outcome RunRecord
+  pub checks-run : List ℕ → List ℕ → ℕ → List ℕ → Answer RunRecord
+  pub joins-two : RunRecord → RunRecord → Answer RunRecord
+  pub joins-list : List RunRecord → Answer RunRecord
+  pub closes : List ℕ → List ℕ → RunRecord → Answer (List ℕ)
+  pub tests : List ℕ → List ℕ → RunRecord → List ℕ → Answer (Unit {0})
+
+-- ours: what the contracts cite
+abbrev pub callsOf : Cipher → Calls
+callsOf c =
+    record {
+      seals-run = sealRun c;
+      checks-run = checkRun c;
+      joins-two = joinTwo;
+      joins-list = joinList;
+      closes = close c;
+      tests = test c;
+    }
+
+-- ---- the answers as the code gives them
+
+-- document 01's number of a refusal; 0 stands for none
+unfoldable pub number : {A : Type 0} → Answer A → ℕ
+number (refused n) = n
+number (given a) = 0
+
+-- what is given, or what stands beside a refusal
+unfoldable pub orElse : {A : Type 0} → A → Answer A → A
+orElse d (refused n) = d
+orElse d (given a) = a
+
+unfoldable pub writtenOf : {A : Type 0} → Outcome A → Written
+writtenOf o = record { refusal = number (o .answer); length = o .reported }
+
+unfoldable pub runAnswerOf : Outcome RunRecord → RunAnswer
+runAnswerOf o = record { refusal = number (o .answer); length = o .reported; run = orElse blank (o .answer) }
+
+unfoldable pub recordAnswerOf : Answer RunRecord → RecordAnswer
+recordAnswerOf a = record { refusal = number a; run = orElse blank a }
+
+unfoldable pub tagAnswerOf : Answer (List ℕ) → TagAnswer
+tagAnswerOf a = record { refusal = number a; tag = orElse zeroBlock a }

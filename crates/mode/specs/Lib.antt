@@ -1,0 +1,8 @@
+-- Mode: steps 1 to 3 of document 01, over any cipher. Aes: AES-128 as that cipher. Table: the refusals. Calls: what each call answers.
+-- Parallel: the rack, and lists of calls on it. Demands: what is promised, as types.
+pub mod Mode
+pub mod Aes
+pub mod Table
+pub mod Calls
+pub mod Parallel
+pub mod Demands

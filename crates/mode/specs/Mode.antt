@@ -1,0 +1,126 @@
+-- The mode of document 01 (source documents 000 and 003), over any block cipher that is cut into two halves.
+use mathlib.Core.Path.{_≡_}
+use mathlib.Core.List.{List, [], _∷_, _++_}
+use mathlib.Core.Bool.{Bool, true, false, cond}
+use Prim.Native.Nat.{ℕ, zero, suc, _+_, _*_, _-_, _/_, _%_}
+use lib.ListN.{length, take, drop, replicate}
+use Rattle.blocks.specs.Bytes.{Bytes, Block, xorBytes, same, zeros, firstBlocks}
+use Rattle.blocks.specs.Gf128.{timesX, jump}
+-- document 01's run record, as the code declares it: first, count, preauthenticator
+pub use Rattle.mode.specs.declared.RunRecord.{RunRecord}
+
+-- The cipher's two halves, each run forwards and backwards: key, then block.
+pub record Cipher : Type 0 where
+  pub firstHalf : List ℕ → List ℕ → List ℕ
+  pub secondHalf : List ℕ → List ℕ → List ℕ
+  pub firstHalfBack : List ℕ → List ℕ → List ℕ
+  pub secondHalfBack : List ℕ → List ℕ → List ℕ
+
+-- What the mode needs to know of it: each half gives a block, and is undone by its inverse, both ways round.
+pub record Lawful (c : Cipher) : Type 0 where
+  pub firstHalf-long : (key b : List ℕ) → length key ≡ 16 → length b ≡ 16 → length (c .firstHalf key b) ≡ 16
+  pub secondHalf-long : (key b : List ℕ) → length key ≡ 16 → length b ≡ 16 → length (c .secondHalf key b) ≡ 16
+  pub firstHalfBack-long : (key b : List ℕ) → length key ≡ 16 → length b ≡ 16 → length (c .firstHalfBack key b) ≡ 16
+  pub secondHalfBack-long : (key b : List ℕ) → length key ≡ 16 → length b ≡ 16 → length (c .secondHalfBack key b) ≡ 16
+  pub firstHalf-bytes : (key b : List ℕ) → Block key → Block b → Bytes (c .firstHalf key b)
+  pub secondHalf-bytes : (key b : List ℕ) → Block key → Block b → Bytes (c .secondHalf key b)
+  pub firstHalfBack-bytes : (key b : List ℕ) → Block key → Block b → Bytes (c .firstHalfBack key b)
+  pub secondHalfBack-bytes : (key b : List ℕ) → Block key → Block b → Bytes (c .secondHalfBack key b)
+  pub firstHalf-undone : (key b : List ℕ) → Block key → Block b → c .firstHalfBack key (c .firstHalf key b) ≡ b
+  pub firstHalfBack-undone : (key b : List ℕ) → Block key → Block b → c .firstHalf key (c .firstHalfBack key b) ≡ b
+  pub secondHalf-undone : (key b : List ℕ) → Block key → Block b → c .secondHalfBack key (c .secondHalf key b) ≡ b
+  pub secondHalfBack-undone : (key b : List ℕ) → Block key → Block b → c .secondHalf key (c .secondHalfBack key b) ≡ b
+
+-- ---- bytes and blocks
+
+-- the blocks of a list of bytes
+unfoldable pub blocksOf : List ℕ → List (List ℕ)
+blocksOf bytes = firstBlocks (length bytes / 16) bytes
+
+-- Padding (source document 002, over whole bytes): always one byte 80, then 0 to 15 zero bytes, to the next multiple of 16.
+unfoldable pub padded : List ℕ → List ℕ
+padded message = message ++ (0x80 ∷ zeros (15 - length message % 16))
+
+abbrev pub zeroBlock : List ℕ
+zeroBlock = zeros 16
+
+-- a sealed record's parts: the IV, the ciphertext and the tag
+unfoldable pub ivPart : List ℕ → List ℕ
+ivPart sealed = take 16 sealed
+
+unfoldable pub cipherPart : List ℕ → List ℕ
+cipherPart sealed = take (length sealed - 32) (drop 16 sealed)
+
+unfoldable pub tagPart : List ℕ → List ℕ
+tagPart sealed = drop (length sealed - 16) sealed
+
+-- ---- steps 1 to 3
+
+-- which blocks are in hand: the padded message's, or the ciphertext's
+pub data Source : Type 0 where
+  plaintext ciphertext : Source
+
+-- what step 2 leaves after some blocks
+pub record Pass : Type 0 where
+  pub output : List ℕ
+  pub preauthenticator : List ℕ
+  pub mask : List ℕ
+
+module _ (c : Cipher) where
+  -- the whole cipher: the second half after the first
+  unfoldable pub encrypt : List ℕ → List ℕ → List ℕ
+  encrypt key block = c .secondHalf key (c .firstHalf key block)
+
+  -- Step 1. Start mask: encrypt (IV plus key), add the key. If that is zero, the start mask is the key.
+  unfoldable pub startMask : List ℕ → List ℕ → List ℕ
+  startMask key iv =
+      let sum = xorBytes (encrypt key (xorBytes iv key)) key in
+      cond (same sum zeroBlock) key sum
+
+  -- Step 2. A block's middletext is the first half applied to (block plus mask); from ciphertext, the second half run backwards on
+  -- (ciphertext block plus mask).
+  unfoldable pub middletext : Source → List ℕ → List ℕ → List ℕ → List ℕ
+  middletext plaintext key mask block = c .firstHalf key (xorBytes block mask)
+  middletext ciphertext key mask block = c .secondHalfBack key (xorBytes block mask)
+
+  -- Step 2. The ciphertext block is the second half of the middletext, plus the mask; where the ciphertext is in hand nothing is written.
+  unfoldable pub written : Source → List ℕ → List ℕ → List ℕ → List ℕ
+  written plaintext key mask middle = xorBytes (c .secondHalf key middle) mask
+  written ciphertext key mask middle = []
+
+  -- Step 2 for each block, in order, from a mask and a pre-authenticator: the pre-authenticator is multiplied by the variable and the
+  -- middletext added; then the mask is multiplied by the variable.
+  unfoldable pub pass : Source → List ℕ → List (List ℕ) → List ℕ → List ℕ → Pass
+  pass s key [] mask preauthenticator = record { output = []; preauthenticator = preauthenticator; mask = mask }
+  pass s key (block ∷ blocks) mask preauthenticator =
+      let middle = middletext s key mask block in
+      let rest = pass s key blocks (timesX mask) (xorBytes (timesX preauthenticator) middle) in
+      record { output = written s key mask middle ++ rest .output; preauthenticator = rest .preauthenticator; mask = rest .mask }
+
+  -- steps 1 and 2 over all blocks, nothing cut: the pre-authenticator is zero at first
+  unfoldable pub unbroken : Source → List ℕ → List ℕ → List (List ℕ) → Pass
+  unbroken s key iv blocks = pass s key blocks (startMask key iv) zeroBlock
+
+  -- Step 3. The tag is the encryption of (pre-authenticator plus the mask after the last block), plus the pre-authenticator.
+  unfoldable pub tagFrom : List ℕ → List ℕ → List ℕ → List ℕ
+  tagFrom key preauthenticator mask = xorBytes (encrypt key (xorBytes preauthenticator mask)) preauthenticator
+
+  -- steps 1 to 3: the tag over all blocks, nothing cut
+  unfoldable pub unbrokenTag : Source → List ℕ → List ℕ → List (List ℕ) → List ℕ
+  unbrokenTag s key iv blocks = tagFrom key ((unbroken s key iv blocks) .preauthenticator) ((unbroken s key iv blocks) .mask)
+
+  -- The record of consecutive blocks (`these`, which stand after the blocks `before`): the block they start at, their count and the
+  -- pre-authenticator over them alone, begun from zero, with the masks that steps 1 and 2 give there when nothing is cut.
+  unfoldable pub recordOf : Source → List ℕ → List ℕ → List (List ℕ) → List (List ℕ) → RunRecord
+  recordOf s key iv before these =
+      record { first = length before; count = length these; preauthenticator = (pass s key these ((unbroken s key iv before) .mask) zeroBlock) .preauthenticator }
+
+  -- the sealed record of a message: the IV, the ciphertext and the tag
+  unfoldable pub sealedRecord : List ℕ → List ℕ → List ℕ → List ℕ
+  sealedRecord key iv message =
+      iv ++ (unbroken plaintext key iv (blocksOf (padded message))) .output ++ unbrokenTag plaintext key iv (blocksOf (padded message))
+
+  -- The unbroken check: a sealed record (any bytes of a length that opening takes) passes exactly when steps 1 to 3 over all its
+  -- ciphertext, under its IV, give its tag.
+  unfoldable pub UnbrokenCheck : List ℕ → List ℕ → Type 0
+  UnbrokenCheck key sealed = unbrokenTag ciphertext key (ivPart sealed) (blocksOf (cipherPart sealed)) ≡ tagPart sealed

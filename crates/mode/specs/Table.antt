@@ -1,0 +1,86 @@
+-- Why a list is turned down: document 01's table. A row is a number and whether its condition holds; the first row that holds, in the
+-- table's order, is the answer.
+use mathlib.Core.Path.{_≡_}
+use mathlib.Core.List.{List, [], _∷_}
+use mathlib.Core.Bool.{Bool, true, false, cond, not, _&&_, _||_}
+use Prim.Native.Nat.{ℕ, zero, suc, _+_, _*_, _-_, _%_}
+use lib.ListN.{length}
+use lib.Dec.{eqb, ltb}
+use Rattle.mode.specs.Mode.{RunRecord}
+
+-- a refusal, by document 01's number, or what the call gives
+pub data Answer (A : Type 0) : Type 0 where
+  refused : ℕ → Answer A
+  given : A → Answer A
+
+-- the first row that holds
+unfoldable pub decide : {A : Type 0} → List (ℕ × Bool) → A → Answer A
+decide [] a = given a
+decide (row ∷ rows) a = cond (row .1) (refused (row .0)) (decide rows a)
+
+-- the numbers in the order in which their rows stand
+abbrev pub tableOrder : List ℕ
+tableOrder = 1 ∷ 2 ∷ 3 ∷ 4 ∷ 8 ∷ 9 ∷ 5 ∷ 6 ∷ 7 ∷ []
+
+-- whether some rows stand in that order
+unfoldable pub inOrder : List ℕ → List (ℕ × Bool) → Bool
+inOrder numbers [] = true
+inOrder [] (row ∷ rows) = false
+inOrder (n ∷ numbers) (row ∷ rows) = cond (eqb n (row .0)) (inOrder numbers rows) (inOrder numbers (row ∷ rows))
+
+-- THE LIMIT: the number of blocks that a list may have
+abbrev pub limit : ℕ
+limit = 4000
+
+-- so the longest message, whose padding fills the last block, has 63,999 bytes, and the longest sealed record 64,032
+abbrev pub longestMessage : ℕ
+longestMessage = 16 * limit - 1
+
+abbrev pub longestSealed : ℕ
+longestSealed = 16 * limit + 32
+
+-- ---- the conditions
+
+-- 1, 2, and 3 of a tag or a mask: not 16 bytes
+unfoldable pub not16 : List ℕ → Bool
+not16 bytes = not (eqb (length bytes) 16)
+
+-- 3: no multiple of 16
+unfoldable pub unaligned : List ℕ → Bool
+unaligned bytes = not (eqb (length bytes % 16) 0)
+
+-- 3: a whole message over 63,999
+unfoldable pub tooLong : List ℕ → Bool
+tooLong message = ltb longestMessage (length message)
+
+-- 3: a sealed record below 48, above 64,032 or no multiple of 16
+unfoldable pub notSealed : List ℕ → Bool
+notSealed sealed = ltb (length sealed) 48 || (ltb longestSealed (length sealed) || unaligned sealed)
+
+-- 4: first block plus count above the limit
+unfoldable pub beyond : ℕ → ℕ → Bool
+beyond first count = ltb limit (first + count)
+
+-- 4: of any record handed in
+unfoldable pub anyBeyond : List RunRecord → Bool
+anyBeyond [] = false
+anyBeyond (r ∷ rs) = beyond (r .first) (r .count) || anyBeyond rs
+
+-- 8: two records in turn where the left's first plus count is not the right's first
+unfoldable pub apart : List RunRecord → Bool
+apart [] = false
+apart (r ∷ []) = false
+apart (l ∷ r ∷ rs) = not (eqb (l .first + l .count) (r .first)) || apart (r ∷ rs)
+
+-- 9: an empty list
+unfoldable pub none : List RunRecord → Bool
+none [] = true
+none (r ∷ rs) = false
+
+-- 9: a record that does not start at 0 or has no block
+unfoldable pub notWhole : RunRecord → Bool
+notWhole r = not (eqb (r .first) 0) || eqb (r .count) 0
+
+-- 5: output shorter than the answer
+abbrev pub tooShort : ℕ → ℕ → Bool
+tooShort room needed = ltb room needed
