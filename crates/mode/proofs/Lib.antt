@@ -1,4 +1,5 @@
 pub mod Aes
+pub mod Join
 pub mod Laws
 pub mod Blocks
 pub mod Runs

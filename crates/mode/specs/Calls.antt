@@ -254,5 +254,9 @@ runAnswerOf o = record { refusal = number (o .answer); length = o .reported; run
 unfoldable pub recordAnswerOf : Answer RunRecord → RecordAnswer
 recordAnswerOf a = record { refusal = number a; run = orElse blank a }
 
+-- what stands beside a refusal
+abbrev pub refusedRecord : ℕ → RecordAnswer
+refusedRecord n = record { refusal = n; run = blank }
+
 unfoldable pub tagAnswerOf : Answer (List ℕ) → TagAnswer
 tagAnswerOf a = record { refusal = number a; tag = orElse zeroBlock a }
