@@ -1,0 +1,3 @@
+-- Walk: one loop law for sealing, opening and checking. Halves: the code's halves under a schedule are AES-128's under its key.
+pub mod Walk
+pub mod Halves

@@ -1,0 +1,106 @@
+-- What the loop has left to do, from where it stands, is what there was to do from the start.
+use borrow.Author.Needs.{needs}
+use mathlib.Core.Path.{_≡_, _∙_}
+use mathlib.Core.List.{List}
+use Prim.Native.Nat.{ℕ, _≤_, _-_, _*_, _/_}
+use native.Mathlib.Omega.{arith}
+use lib.ListN.{length}
+use Rattle.blocks.specs.Bytes.{firstBlocks}
+use Rattle.fips197.specs.Aes128.{invSecondHalf, invFirstHalf}
+use Rattle.runs.specs.Run.{keyOf, Expanded}
+use Rattle.runs.proofs.Walk.{Written, begins, turn, ends, ran-opening}
+use Rattle.runs.proofs.Halves.{invSecond-is, invFirst-is}
+use Rattle.runs.proofs.run.open_blocks.Statement.{statement}
+use Rattle.runs.proofs.run.open_blocks.Tie as tie
+
+abbrev Inv-loop : tie.InvT-loop
+Inv-loop keys inv-sbox text₀ n m₀ p₀ i₀ text m p i = Written (invSecondHalf (keyOf keys)) (invFirstHalf (keyOf keys)) m₀ text₀ n i text m p
+
+abbrev μ-loop : tie.MeasureT-loop
+μ-loop keys inv-sbox text₀ n m₀ p₀ i₀ text m p i = n - i
+
+fits : (c : tie.Start Inv-loop μ-loop) → length (c .args .text .now) / 16 * 16 ≤ length (c .args .text .now)
+fits c = omega arith
+
+long-y : (c : tie.After-xor2 Inv-loop μ-loop) → length (c .xor2 .result) ≡ 16
+long-y c = search needs
+
+loop-holds : tie.Need-loop-holds Inv-loop μ-loop
+loop-holds c = begins _ _ _ _ _
+
+mul-at : tie.Need-mul-at Inv-loop μ-loop
+mul-at c = search needs
+
+load-requires : tie.Need-load-requires Inv-loop μ-loop
+load-requires c κs = search needs
+
+xor-requires : tie.Need-xor-requires Inv-loop μ-loop
+xor-requires c κs = search needs
+
+inv-second-half-requires : tie.Need-inv-second-half-requires Inv-loop μ-loop
+inv-second-half-requires c κs = search needs
+
+inv-first-half-requires : tie.Need-inv-first-half-requires Inv-loop μ-loop
+inv-first-half-requires c κs = search needs
+
+xor-requires-2 : tie.Need-xor-requires-2 Inv-loop μ-loop
+xor-requires-2 c κs = search needs
+
+store-requires : tie.Need-store-requires Inv-loop μ-loop
+store-requires c κs = search needs
+
+take-up-requires : tie.Need-take-up-requires Inv-loop μ-loop
+take-up-requires c κs = search needs
+
+times-x-requires : tie.Need-times-x-requires Inv-loop μ-loop
+times-x-requires c κs = search needs
+
+add-i : tie.Need-add-i Inv-loop μ-loop
+add-i c = search needs
+
+loop-less : tie.Need-loop-less Inv-loop μ-loop
+loop-less c = search needs
+
+loop-again : tie.Need-loop-again Inv-loop μ-loop
+loop-again c =
+    let l = c .before .before .before .before .before .before .before .before .before .before .before .before .before in
+    let a = l .before .before .args in
+    let keys = a .keys .now in
+    let e : Expanded keys = search needs in
+    turn (invSecondHalf (keyOf keys)) (invFirstHalf (keyOf keys)) (a .mask) (a .text .now) (length (a .text .now) / 16) (fits (l .before .before)) (l .loop .i) (l .loop .text) (l .loop .m) (l .loop .p) (l .loop .inv)
+    _ _ _ _ _ _ _ _ (c .before .before .before .before .before .before .before .before .before .before .before .before .loop-test .taken) (long-y (c .before .before .before .before .before .before))
+    (c .before .before .before .before .before .before .before .before .before .before .load .ensures) (c .before .before .before .before .before .before .before .before .before .xor .ensures) (c .before .before .before .before .before .before .before .before .inv-second-half .ensures ∙ invSecond-is keys e (c .before .before .before .before .before .before .before .before .before .xor .result))
+    (c .before .before .before .before .before .before .before .inv-first-half .ensures ∙ invFirst-is keys e (c .before .before .before .before .before .before .before .before .inv-second-half .result)) (c .before .before .before .before .before .before .xor2 .ensures) (c .before .before .before .before .store .ensures) (c .before .take-up .ensures) (c .times-x .ensures)
+
+same-length : tie.Need-same-length Inv-loop μ-loop
+same-length c = search needs
+
+returns : tie.Need-returns Inv-loop μ-loop
+returns c =
+    let l = c .before in
+    let a = l .before .before .args in
+    let keys = a .keys .now in
+    ran-opening (keyOf keys) (a .mask) (firstBlocks (length (a .text .now) / 16) (a .text .now))
+    (ends (invSecondHalf (keyOf keys)) (invFirstHalf (keyOf keys)) (a .mask) (a .text .now) (length (a .text .now) / 16) (fits (l .before .before)) (l .loop .i) (l .loop .text) (l .loop .m) (l .loop .p) (l .loop .inv) (c .loop-test .left))
+
+pub open-blocks-spec : {M : Type 1} → statement M
+open-blocks-spec =
+    tie.close
+    (tie.spec
+    Inv-loop
+    μ-loop
+    loop-holds
+    mul-at
+    load-requires
+    xor-requires
+    inv-second-half-requires
+    inv-first-half-requires
+    xor-requires-2
+    store-requires
+    take-up-requires
+    times-x-requires
+    add-i
+    loop-less
+    loop-again
+    same-length
+    returns)

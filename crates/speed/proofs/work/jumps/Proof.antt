@@ -1,0 +1,34 @@
+-- The turns are counted.
+use borrow.Author.Needs.{needs}
+use Prim.Native.Nat.{_≤_, _-_}
+use Rattle.speed.proofs.work.jumps.Statement.{statement}
+use Rattle.speed.proofs.work.jumps.Tie as tie
+
+abbrev Inv-loop : tie.InvT-loop
+Inv-loop by n r₀ i₀ r i = i ≤ n
+
+abbrev μ-loop : tie.MeasureT-loop
+μ-loop by n r₀ i₀ r i = n - i
+
+loop-holds : tie.Need-loop-holds Inv-loop μ-loop
+loop-holds c = search needs
+
+jump-requires : tie.Need-jump-requires Inv-loop μ-loop
+jump-requires c κs = search needs
+
+add-i : tie.Need-add-i Inv-loop μ-loop
+add-i c = search needs
+
+loop-less : tie.Need-loop-less Inv-loop μ-loop
+loop-less c = search needs
+
+loop-again : tie.Need-loop-again Inv-loop μ-loop
+loop-again c = search needs
+
+returns : tie.Need-returns Inv-loop μ-loop
+returns c = search needs
+
+pub jumps-spec : {M : Type 1} → statement M
+jumps-spec =
+    tie.close
+    (tie.spec Inv-loop μ-loop loop-holds jump-requires add-i loop-less loop-again returns)
