@@ -1,8 +1,10 @@
 pub mod Aes
+pub mod Rows
 pub mod Join
 pub mod Laws
 pub mod Blocks
 pub mod Runs
+pub mod SealedLength
 pub mod Segments
 pub mod Demand3
 pub mod Bytes

@@ -73,7 +73,7 @@ nothing-written c key [] mask p = refl
 nothing-written c key (b ∷ bs) mask p = nothing-written c key bs (timesX mask) (xorBytes (timesX p) (middletext c ciphertext key mask b))
 
 module _ (c : Cipher) (laws : Lawful c) (key : List ℕ) (key-long : length key ≡ 16) where
-  output-long : (bs : List (List ℕ)) (mask p : List ℕ) → AllLong bs → length mask ≡ 16 → length ((pass c plaintext key bs mask p) .output) ≡ 16 * length bs
+  pub output-long : (bs : List (List ℕ)) (mask p : List ℕ) → AllLong bs → length mask ≡ 16 → length ((pass c plaintext key bs mask p) .output) ≡ 16 * length bs
   unfolding pass written
   output-long [] mask p hs hm = refl
   output-long (b ∷ bs) mask p hs hm =

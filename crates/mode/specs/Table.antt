@@ -18,6 +18,11 @@ unfoldable pub decide : {A : Type 0} → List (ℕ × Bool) → A → Answer A
 decide [] a = given a
 decide (row ∷ rows) a = cond (row .1) (refused (row .0)) (decide rows a)
 
+-- the number of the first row that holds, or 0
+unfoldable pub firstRow : List (ℕ × Bool) → ℕ
+firstRow [] = 0
+firstRow (row ∷ rows) = cond (row .1) (row .0) (firstRow rows)
+
 -- the numbers in the order in which their rows stand
 abbrev pub tableOrder : List ℕ
 tableOrder = 1 ∷ 2 ∷ 3 ∷ 4 ∷ 8 ∷ 9 ∷ 5 ∷ 6 ∷ 7 ∷ []

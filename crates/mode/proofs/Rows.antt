@@ -1,0 +1,124 @@
+-- Rows of the table, one after another: how a call comes to its refusal or to its answer.
+use mathlib.Core.Path.{_≡_, refl, sym, ap, _∙_}
+use mathlib.Core.Bool.{Bool, true, false, cond, not, _&&_, _||_}
+use mathlib.Core.List.{List, [], _∷_, _++_}
+use Prim.Native.Nat.{ℕ, zero, suc, _+_, _-_, _%_, _≤_, _<_}
+use native.Mathlib.Omega.{arith}
+use lib.Dec.{T, eqb, ltb}
+use lib.ListN.{length}
+use borrow.Author.Tests.{eq-eqb, ne-eqb, le-ltb, lt-ltb}
+use Rattle.blocks.specs.Bytes.{zeros}
+use Rattle.mode.specs.Mode.{RunRecord}
+use Rattle.mode.specs.Table.{Answer, refused, given, decide, firstRow, limit, longestMessage, longestSealed, not16, unaligned, tooLong, notSealed, beyond, notWhole}
+use Rattle.mode.specs.Calls.{Outcome, outcomeBy}
+
+-- ---- the first row
+
+pub row-holds : (n : ℕ) (b : Bool) (rows : List (ℕ × Bool)) → b ≡ true → firstRow ((n, b) ∷ rows) ≡ n
+unfolding firstRow
+row-holds n b rows e = ap (λ (t : Bool). cond t n (firstRow rows)) e
+
+pub row-passes : (n : ℕ) (b : Bool) (rows : List (ℕ × Bool)) → b ≡ false → firstRow ((n, b) ∷ rows) ≡ firstRow rows
+unfolding firstRow
+row-passes n b rows e = ap (λ (t : Bool). cond t n (firstRow rows)) e
+
+pub no-row : firstRow [] ≡ 0
+unfolding firstRow
+no-row = refl
+
+-- no row has the number 0
+abbrev pub numbered : List (ℕ × Bool) → Bool
+numbered [] = true
+numbered (row ∷ rows) = not (eqb (row .0) 0) && numbered rows
+
+-- the first rows refuse
+pub first-refuses : {A : Type 0} (rows more : List (ℕ × Bool)) (a : A) (n : ℕ) → firstRow rows ≡ n → (n ≡ 0 → ⊥) → decide (rows ++ more) a ≡ refused n
+unfolding firstRow decide
+first-refuses [] more a n e h = absurd (h (sym e))
+first-refuses (row ∷ rows) more a n e h = by (row .1) (λ d. first-refuses rows more a n d h) e
+  where
+    by : (t : Bool) → (firstRow rows ≡ n → decide (rows ++ more) a ≡ refused n) → cond t (row .0) (firstRow rows) ≡ n
+        → cond t (refused (row .0)) (decide (rows ++ more) a) ≡ refused n
+    by true f e = ap (λ (k : ℕ). refused k) e
+    by false f e = f e
+
+-- the first rows let pass
+pub first-passes : {A : Type 0} (rows more : List (ℕ × Bool)) (a : A) → T (numbered rows) → firstRow rows ≡ 0 → decide (rows ++ more) a ≡ decide more a
+unfolding firstRow decide
+first-passes [] more a t e = refl
+first-passes (row ∷ rows) more a t e = by (row .0) (row .1) t (λ u d. first-passes rows more a u d) e
+  where
+    last-of : (p q : Bool) → T (p && q) → T q
+    last-of true q t = t
+    last-of false q t = absurd t
+
+    never : (k : ℕ) → T (not (eqb k 0) && numbered rows) → k ≡ 0 → ⊥
+    never zero t e = t
+    never (suc k) t e = omega arith
+
+    by : (k : ℕ) (b : Bool) → T (not (eqb k 0) && numbered rows) → (T (numbered rows) → firstRow rows ≡ 0 → decide (rows ++ more) a ≡ decide more a)
+        → cond b k (firstRow rows) ≡ 0 → cond b (refused k) (decide (rows ++ more) a) ≡ decide more a
+    by k false t f e = f (last-of (not (eqb k 0)) (numbered rows) t) e
+    by k true t f e = absurd (never k t e)
+
+pub no-more-rows : {A : Type 0} (a : A) → decide [] a ≡ given a
+unfolding decide
+no-more-rows a = refl
+
+-- ---- outcomes
+
+pub outcome-refused : {A : Type 0} (a : Answer A) (bytes : List ℕ) (room n : ℕ) → a ≡ refused n
+    → outcomeBy a bytes room ≡ record { answer = refused n; reported = 0; output = zeros room }
+unfolding outcomeBy
+outcome-refused a bytes room n e = ap (λ (b : Answer _). outcomeBy b bytes room) e
+
+pub outcome-given : {A : Type 0} (a : Answer A) (bytes : List ℕ) (room : ℕ) (x : A) → a ≡ given x
+    → outcomeBy a bytes room ≡ record { answer = given x; reported = length bytes; output = bytes ++ zeros (room - length bytes) }
+unfolding outcomeBy
+outcome-given a bytes room x e = ap (λ (b : Answer _). outcomeBy b bytes room) e
+
+-- ---- the conditions, as the code tests them
+
+pub isnt16 : (a : List ℕ) → (length a ≡ 16 → ⊥) → not16 a ≡ true
+unfolding not16
+isnt16 a h = ap not (ne-eqb (length a) 16 h)
+
+pub misaligned : (a : List ℕ) → (length a % 16 ≡ 0 → ⊥) → unaligned a ≡ true
+unfolding unaligned
+misaligned a h = ap not (ne-eqb (length a % 16) 0 h)
+
+pub is-beyond : (first count : ℕ) → limit < first + count → beyond first count ≡ true
+unfolding beyond
+is-beyond first count h = lt-ltb limit (first + count) h
+
+pub too-long : (m : List ℕ) → longestMessage < length m → tooLong m ≡ true
+unfolding tooLong
+too-long m h = lt-ltb longestMessage (length m) h
+
+pub not-too-long : (m : List ℕ) → length m ≤ longestMessage → tooLong m ≡ false
+unfolding tooLong
+not-too-long m h = le-ltb longestMessage (length m) h
+
+pub not-at-start : (r : RunRecord) → (r .first ≡ 0 → ⊥) → notWhole r ≡ true
+unfolding notWhole
+not-at-start r h = rw (ne-eqb (r .first) 0 h)
+
+pub has-no-block : (r : RunRecord) → r .first ≡ 0 → r .count ≡ 0 → notWhole r ≡ true
+unfolding notWhole
+has-no-block r e h = rw (eq-eqb (r .first) 0 e, eq-eqb (r .count) 0 h)
+
+pub is-whole : (r : RunRecord) → r .first ≡ 0 → (r .count ≡ 0 → ⊥) → notWhole r ≡ false
+unfolding notWhole
+is-whole r e h = rw (eq-eqb (r .first) 0 e, ne-eqb (r .count) 0 h)
+
+pub sealed-short : (s : List ℕ) → length s < 48 → notSealed s ≡ true
+unfolding notSealed
+sealed-short s h = rw (lt-ltb (length s) 48 h)
+
+pub sealed-long : (s : List ℕ) → 48 ≤ length s → longestSealed < length s → notSealed s ≡ true
+unfolding notSealed
+sealed-long s k h = rw (le-ltb (length s) 48 k, lt-ltb longestSealed (length s) h)
+
+pub sealed-misaligned : (s : List ℕ) → 48 ≤ length s → length s ≤ longestSealed → (length s % 16 ≡ 0 → ⊥) → notSealed s ≡ true
+unfolding notSealed
+sealed-misaligned s k l h = rw (le-ltb (length s) 48 k, le-ltb longestSealed (length s) l, misaligned s h)
