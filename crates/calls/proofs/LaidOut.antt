@@ -1,0 +1,107 @@
+-- Runs laid out: lengths, blocks, and the table's conditions by the length.
+use mathlib.Core.Path.{_≡_, refl, sym, ap, ap₂, _∙_}
+use mathlib.Core.Bool.{Bool, true, false}
+use mathlib.Core.List.{List, [], _∷_, _++_, append-assoc}
+use Prim.Native.Nat.{ℕ, zero, suc, _+_, _-_, _*_, _/_, _%_, _≤_, _<_}
+use native.Mathlib.Omega.{arith}
+use lib.ListN.{length, drop, set, length-replicate}
+use lib.Seq.{set-at}
+use Rattle.blocks.specs.Bytes.{zeros}
+use Rattle.blocks.specs.Gf128.{jump}
+use Rattle.blocks.proofs.TimesX.{length-jump}
+use Rattle.mode.specs.Mode.{plaintext, zeroBlock, startMask, blocksOf, padded}
+use Rattle.mode.specs.Aes.{aes}
+use Rattle.mode.specs.Calls.{blocksOfRun, unalignedRun, passFrom}
+use Rattle.mode.proofs.Aes.{aes-lawful}
+use Rattle.mode.proofs.Blocks.{length-padded, count-middle, count-last, aligned, run-long}
+use Rattle.mode.proofs.Laws.{start-long}
+use Rattle.mode.proofs.Runs.{output-long}
+use Rattle.mode.proofs.Rows.{misaligned}
+use Rattle.calls.specs.Layout.{kindOf, laidOut, laidOutLength}
+
+-- ---- zeros
+
+pub drop-zeros : (n m : ℕ) → drop n (zeros m) ≡ zeros (m - n)
+drop-zeros zero m = ap zeros (let e : m ≡ m - 0 = omega arith in e)
+drop-zeros (suc n) zero = ap zeros (let e : 0 ≡ 0 - suc n = omega arith in e)
+drop-zeros (suc n) (suc m) = drop-zeros n m ∙ ap zeros (let e : m - n ≡ suc m - suc n = omega arith in e)
+
+pub length-zeros : (n : ℕ) → length (zeros n) ≡ n
+length-zeros n = length-replicate {A = ℕ} n 0
+
+-- the first of some zeros set
+pub set-zeros : (a : List ℕ) (n v : ℕ) → 0 < n → set (a ++ zeros n) (length a) v ≡ a ++ (v ∷ zeros (n - 1))
+set-zeros a zero v h = absurd (omega arith)
+set-zeros a (suc n) v h = set-at a 0 (zeros n) v (length a) refl ∙ ap (λ (k : ℕ). a ++ (v ∷ zeros k)) (let e : n ≡ suc n - 1 = omega arith in e)
+
+pub zeros-append : (m n : ℕ) → zeros m ++ zeros n ≡ zeros (m + n)
+zeros-append zero n = ap zeros (let e : n ≡ 0 + n = omega arith in e)
+zeros-append (suc m) n = ap (λ (t : List ℕ). 0 ∷ t) (zeros-append m n) ∙ ap zeros (let e : suc (m + n) ≡ suc m + n = omega arith in e)
+
+-- ---- a run
+
+pub length-laidOut : (l : Bool) (bytes : List ℕ) → length (laidOut l bytes) ≡ laidOutLength l (length bytes)
+unfolding laidOut laidOutLength
+length-laidOut true bytes = length-padded bytes ∙ omega arith
+length-laidOut false bytes = refl
+
+pub blocks-laidOut : (l : Bool) (bytes : List ℕ) → blocksOfRun (kindOf l) bytes ≡ blocksOf (laidOut l bytes)
+unfolding kindOf laidOut blocksOfRun
+blocks-laidOut true bytes = refl
+blocks-laidOut false bytes = refl
+
+pub count-laidOut : (l : Bool) (bytes : List ℕ) → length (blocksOfRun (kindOf l) bytes) ≡ laidOutLength l (length bytes) / 16
+count-laidOut l bytes = ap length (blocks-laidOut l bytes) ∙ count-middle (laidOut l bytes) ∙ ap (λ (n : ℕ). n / 16) (length-laidOut l bytes)
+
+pub aligned-run : (l : Bool) (bytes : List ℕ) → laidOutLength l (length bytes) % 16 ≡ 0 → unalignedRun (kindOf l) bytes ≡ false
+unfolding kindOf laidOutLength unalignedRun
+aligned-run true bytes h = refl
+aligned-run false bytes h = aligned bytes h
+
+pub misaligned-run : (l : Bool) (bytes : List ℕ) → (laidOutLength l (length bytes) % 16 ≡ 0 → ⊥) → unalignedRun (kindOf l) bytes ≡ true
+unfolding kindOf laidOutLength unalignedRun
+misaligned-run true bytes h = absurd (h (omega arith))
+misaligned-run false bytes h = misaligned bytes h
+
+-- a message laid out with its padding, from the message in front of zeros
+pub pad-there : (m : List ℕ) (room : ℕ) → length m / 16 * 16 + 16 ≤ room
+    → set (m ++ zeros (room - length m)) (length m) 0x80 ≡ padded m ++ zeros (room - (length m / 16 * 16 + 16))
+unfolding padded
+pad-there m room h =
+    let n = length m in
+    set-zeros m (room - n) 0x80 (omega arith)
+    ∙ ap (λ (z : List ℕ). m ++ (0x80 ∷ z))
+    (ap zeros (let e : room - n - 1 ≡ 15 - n % 16 + (room - (n / 16 * 16 + 16)) = omega arith in e) ∙ sym (zeros-append (15 - n % 16) (room - (n / 16 * 16 + 16))))
+    ∙ sym (append-assoc m (0x80 ∷ zeros (15 - n % 16)) (zeros (room - (n / 16 * 16 + 16))))
+
+pub laid-least : (l : Bool) (n : ℕ) → n ≤ laidOutLength l n
+unfolding laidOutLength
+laid-least true n = omega arith
+laid-least false n = omega arith
+
+-- as the code lays it out, from the bytes in front of zeros
+pub laid-last : (l : Bool) (m old new : List ℕ) (room : ℕ) → l ≡ true → laidOutLength l (length m) ≤ room → old ≡ m ++ zeros (room - length m) → new ≡ set old (length m) 0x80
+    → new ≡ laidOut l m ++ zeros (room - laidOutLength l (length m))
+unfolding laidOut laidOutLength
+laid-last true m old new room e h eo en = en ∙ ap (λ (z : List ℕ). set z (length m) 0x80) eo ∙ pad-there m room h
+laid-last false m old new room e h eo en = absurd (false-true e)
+  where
+    false-true : false ≡ true → ⊥
+    false-true e = let z : _≡_ {A = ℕ} 0 1 = cc in omega arith
+
+pub laid-middle : (l : Bool) (m new : List ℕ) (room : ℕ) → l ≡ false → new ≡ m ++ zeros (room - length m) → new ≡ laidOut l m ++ zeros (room - laidOutLength l (length m))
+unfolding laidOut laidOutLength
+laid-middle false m new room e en = en
+laid-middle true m new room e en = absurd (true-false e)
+  where
+    true-false : true ≡ false → ⊥
+    true-false e = let z : _≡_ {A = ℕ} 0 1 = cc in omega arith
+
+-- the ciphertext of a run is as long as the run laid out
+pub run-output-long : (key iv : List ℕ) (first : ℕ) (l : Bool) (bytes : List ℕ) → length key ≡ 16 → length iv ≡ 16 → laidOutLength l (length bytes) % 16 ≡ 0
+    → length ((passFrom aes plaintext key iv first (blocksOfRun (kindOf l) bytes)) .output) ≡ laidOutLength l (length bytes)
+unfolding passFrom
+run-output-long key iv first l bytes hk hi h =
+    output-long aes aes-lawful key hk (blocksOfRun (kindOf l) bytes) (jump first (startMask aes key iv)) zeroBlock (run-long (kindOf l) bytes (aligned-run l bytes h))
+    (length-jump first (startMask aes key iv) (start-long aes aes-lawful plaintext key hk iv hi))
+    ∙ omega (arith, count-laidOut l bytes)

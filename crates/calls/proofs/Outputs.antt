@@ -1,0 +1,64 @@
+-- Outputs that are written part by part, as lists.
+use mathlib.Core.Path.{_≡_, refl, sym, ap, ap₂, _∙_}
+use mathlib.Core.List.{List, [], _∷_, _++_, append-assoc, append-nil}
+use Prim.Native.Nat.{ℕ, zero, suc, _+_, _-_, _*_, _/_, _%_, _≤_}
+use native.Mathlib.Nat.{le-of-eq}
+use native.Mathlib.Omega.{arith}
+use lib.ListN.{length, take, drop, length-append, length-drop, length-take}
+use lib.Seq.{take-at, drop-at, drop-append-add, take-all, length-take-le}
+use Rattle.blocks.specs.Bytes.{zeros}
+use Rattle.calls.specs.Layout.{Fresh}
+use Rattle.calls.proofs.LaidOut.{drop-zeros, length-zeros}
+
+-- a cleared output
+pub fresh : (n : ℕ) (new : List ℕ) → new ≡ zeros n → Fresh new
+fresh n new e = record { zero = e ∙ ap zeros (sym (ap length e ∙ length-zeros n)) }
+
+-- the whole of a slice of 16 bytes
+pub whole-16 : (a : List ℕ) → length a ≡ 16 → take 16 a ≡ a
+whole-16 a e = take-all 16 a (le-of-eq e)
+
+-- a block stored in front of zeros
+pub stored-front : (old new b : List ℕ) (room : ℕ) → 16 ≤ room → old ≡ zeros room → new ≡ take 0 old ++ b ++ drop (0 + 16) old → new ≡ b ++ zeros (room - 16)
+stored-front old new b room h eo en = en ∙ ap (λ (z : List ℕ). b ++ drop 16 z) eo ∙ ap (λ (z : List ℕ). b ++ z) (drop-zeros 16 room)
+
+-- a block stored after a front of n bytes, in front of zeros
+pub stored-after : (front old new b : List ℕ) (n left : ℕ) → length front ≡ n → old ≡ front ++ zeros left → new ≡ take n old ++ b ++ drop (n + 16) old
+    → new ≡ front ++ b ++ zeros (left - 16)
+stored-after front old new b n left l eo en =
+    en ∙ ap (λ (z : List ℕ). take n z ++ b ++ drop (n + 16) z) eo
+    ∙ ap₂ (λ (x y : List ℕ). x ++ b ++ y) (take-at front (zeros left) n l)
+    (ap (λ (k : ℕ). drop (k + 16) (front ++ zeros left)) (sym l) ∙ drop-append-add front (zeros left) 16 ∙ drop-zeros 16 left)
+
+-- ---- the front of an output, worked on in place
+
+drop-all : (x : List ℕ) → drop (length x) x ≡ []
+drop-all [] = refl
+drop-all (a ∷ x) = drop-all x
+
+module _ (text out : List ℕ) (size left : ℕ) (l : length text ≡ size) (e : out ≡ text ++ zeros left) where
+  pub front-is : take size out ≡ text
+  front-is = ap (take size) e ∙ take-at text (zeros left) size l
+
+  module _ (new output : List ℕ) (h : size % 16 ≡ 0) (en : new ≡ output ++ drop (length (take size out) / 16 * 16) (take size out)) where
+    all-new : new ≡ output
+    all-new =
+        let n : length (take size out) ≡ size = ap length front-is ∙ l in
+        let k : length (take size out) / 16 * 16 ≡ length (take size out) = omega arith in
+        en ∙ ap (λ (y : List ℕ). output ++ y) (ap (λ (m : ℕ). drop m (take size out)) k ∙ drop-all (take size out)) ∙ append-nil output
+
+    pub worked : new ++ drop size out ≡ output ++ zeros left
+    worked = ap₂ (λ (x y : List ℕ). x ++ y) all-new (ap (drop size) e ∙ drop-at text (zeros left) size l)
+
+    pub worked-long : length new ≡ length (take size out) → length output ≡ size
+    worked-long k = ap length (sym all-new) ∙ k ∙ ap length front-is ∙ l
+
+-- ---- an output from the n-th byte on
+
+pub back-is : (n : ℕ) (old : List ℕ) → take (length old - n) (drop n old) ≡ drop n old
+back-is n old = take-all (length old - n) (drop n old) (le-of-eq (length-drop n old))
+
+pub back-put : (n : ℕ) (old new : List ℕ) → take n old ++ (new ++ drop (length old - n) (drop n old)) ≡ take n old ++ new
+back-put n old new =
+    ap (λ (z : List ℕ). take n old ++ (new ++ z)) (ap (λ (k : ℕ). drop k (drop n old)) (sym (length-drop n old)) ∙ drop-all (drop n old))
+    ∙ ap (λ (z : List ℕ). take n old ++ z) (append-nil new)

@@ -1,0 +1,79 @@
+-- What is known where no row of the table holds.
+use mathlib.Core.Path.{_≡_, refl, sym, ap, _∙_}
+use mathlib.Core.Bool.{Bool, true, false, cond, not, _||_}
+use mathlib.Core.List.{List, [], _∷_, _++_}
+use Prim.Native.Nat.{ℕ, zero, suc, _+_, _*_, _/_, _%_, _≤_, _<_}
+use native.Mathlib.Omega.{arith}
+use lib.Dec.{T, eqb, ltb}
+use lib.ListN.{length}
+use borrow.Author.Tests.{eqb-true, ltb-false, not-false}
+use Rattle.mode.specs.Mode.{sealedRecord}
+use Rattle.mode.specs.Aes.{aes}
+use Rattle.mode.specs.Table.{firstRow, limit, not16, unaligned, beyond}
+use Rattle.mode.specs.Calls.{sealRunRows, sealRows, blocksOfRun, unalignedRun}
+use Rattle.mode.proofs.Aes.{aes-lawful}
+use Rattle.mode.proofs.SealedLength.{sealed-length}
+use Rattle.calls.specs.Layout.{kindOf, laidOutLength}
+use Rattle.calls.proofs.LaidOut.{count-laidOut}
+
+-- the head of rows that do not hold, and the rows after it
+pub head-passed : (n : ℕ) (b : Bool) (rows : List (ℕ × Bool)) → firstRow ((suc n, b) ∷ rows) ≡ 0 → b ≡ false
+unfolding firstRow
+head-passed n false rows e = refl
+head-passed n true rows e = absurd (omega arith)
+
+pub tail-passed : (n : ℕ) (b : Bool) (rows : List (ℕ × Bool)) → firstRow ((suc n, b) ∷ rows) ≡ 0 → firstRow rows ≡ 0
+unfolding firstRow
+tail-passed n false rows e = e
+tail-passed n true rows e = absurd (omega arith)
+
+pub has-16 : (a : List ℕ) → not16 a ≡ false → length a ≡ 16
+unfolding not16
+has-16 a e = eqb-true (length a) 16 (not-false (eqb (length a) 16) e)
+
+-- rows that start with 1 for the key, and 2 for the IV
+pub key-16 : (key : List ℕ) (rows : List (ℕ × Bool)) → firstRow ((1, not16 key) ∷ rows) ≡ 0 → length key ≡ 16
+key-16 key rows e = has-16 key (head-passed 0 (not16 key) rows e)
+
+pub iv-16 : (key iv : List ℕ) (rows : List (ℕ × Bool)) → firstRow ((1, not16 key) ∷ (2, not16 iv) ∷ rows) ≡ 0 → length iv ≡ 16
+iv-16 key iv rows e = has-16 iv (head-passed 1 (not16 iv) rows (tail-passed 0 (not16 key) ((2, not16 iv) ∷ rows) e))
+
+-- 4 does not hold
+pub within-limit : (first count : ℕ) (rows : List (ℕ × Bool)) → firstRow ((4, beyond first count) ∷ rows) ≡ 0 → first + count ≤ limit
+unfolding beyond
+within-limit first count rows e = ltb-false limit (first + count) (head-passed 3 (ltb limit (first + count)) rows e)
+
+-- 3 of a tag does not hold
+pub tag-16 : (key iv tag : List ℕ) (rows : List (ℕ × Bool)) → firstRow ((1, not16 key) ∷ (2, not16 iv) ∷ (3, not16 tag) ∷ rows) ≡ 0 → length tag ≡ 16
+tag-16 key iv tag rows e =
+    has-16 tag (head-passed 2 (not16 tag) rows (tail-passed 1 (not16 iv) ((3, not16 tag) ∷ rows) (tail-passed 0 (not16 key) ((2, not16 iv) ∷ (3, not16 tag) ∷ rows) e)))
+
+-- after the key, the IV and a length: 4 does not hold
+pub run-within : (key iv : List ℕ) (b : Bool) (first count : ℕ) (rows : List (ℕ × Bool))
+    → firstRow ((1, not16 key) ∷ (2, not16 iv) ∷ (3, b) ∷ (4, beyond first count) ∷ rows) ≡ 0 → first + count ≤ limit
+run-within key iv b first count rows e =
+    within-limit first count rows
+    (tail-passed 2 b ((4, beyond first count) ∷ rows)
+    (tail-passed 1 (not16 iv) ((3, b) ∷ (4, beyond first count) ∷ rows) (tail-passed 0 (not16 key) ((2, not16 iv) ∷ (3, b) ∷ (4, beyond first count) ∷ rows) e)))
+
+-- ---- calls that write: the output is long enough
+
+run-aligned : (l : Bool) (bytes : List ℕ) → unalignedRun (kindOf l) bytes ≡ false → laidOutLength l (length bytes) % 16 ≡ 0
+unfolding kindOf laidOutLength unalignedRun unaligned
+run-aligned true bytes e = omega arith
+run-aligned false bytes e = eqb-true (length bytes % 16) 0 (not-false (eqb (length bytes % 16) 0) e)
+
+pub run-fits : (key iv : List ℕ) (first : ℕ) (l : Bool) (bytes : List ℕ) (room : ℕ) → firstRow (sealRunRows key iv first (kindOf l) bytes room) ≡ 0
+    → (laidOutLength l (length bytes) ≤ room) × ((laidOutLength l (length bytes) % 16 ≡ 0) × (laidOutLength l (length bytes) / 16 ≤ limit))
+run-fits key iv first l bytes room e =
+    let k = count-laidOut l bytes in
+    let e₃ = tail-passed 1 _ _ (tail-passed 0 _ _ e) in
+    let a = run-aligned l bytes (head-passed 2 _ _ e₃) in
+    let f : 16 * length (blocksOfRun (kindOf l) bytes) ≤ room = ltb-false room (16 * length (blocksOfRun (kindOf l) bytes)) (head-passed 4 _ _ (tail-passed 3 _ _ (tail-passed 2 _ _ e₃))) in
+    let w : first + length (blocksOfRun (kindOf l) bytes) ≤ limit = run-within key iv _ first _ _ e in
+    (omega (arith, f, k, a), (a, omega (arith, w, k)))
+
+pub sealed-fits : (key iv message : List ℕ) (room : ℕ) → firstRow (sealRows aes key iv message room) ≡ 0 → length message / 16 * 16 + 48 ≤ room
+sealed-fits key iv message room e =
+    let f : length (sealedRecord aes key iv message) ≤ room = ltb-false room (length (sealedRecord aes key iv message)) (head-passed 4 _ _ (tail-passed 2 _ _ (tail-passed 1 _ _ (tail-passed 0 _ _ e)))) in
+    omega (arith, f, sealed-length aes aes-lawful key (key-16 key _ e) iv (iv-16 key iv _ e) message)

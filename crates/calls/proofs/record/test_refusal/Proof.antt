@@ -1,0 +1,33 @@
+-- Row by row.
+use borrow.Author.Needs.{needs}
+use mathlib.Core.Path.{_≡_, sym, ap, _∙_}
+use Rattle.mode.proofs.Runs.{is16}
+use Rattle.mode.proofs.Rows.{row-holds, row-passes, isnt16}
+use borrow.Author.Needs.{needs}
+use Rattle.calls.proofs.record.test_refusal.Statement.{statement}
+use Rattle.calls.proofs.record.test_refusal.Tie as tie
+
+returns : tie.Need-returns
+returns c = let a = c .before .before .before .before .args in sym (row-holds 1 _ _ (isnt16 (a .key .now) (c .if1 .taken)))
+
+returns-2 : tie.Need-returns-2
+returns-2 c =
+    let a = c .before .before .before .before .before .args in
+    sym (row-passes 1 _ _ (is16 (a .key .now) (c .before .if1 .left)) ∙ row-holds 2 _ _ (isnt16 (a .iv .now) (c .if2 .taken)))
+
+returns-3 : tie.Need-returns-3
+returns-3 c =
+    let a = c .before .before .before .before .before .before .args in
+    sym (row-passes 1 _ _ (is16 (a .key .now) (c .before .before .if1 .left)) ∙ row-passes 2 _ _ (is16 (a .iv .now) (c .before .if2 .left)) ∙ row-holds 3 _ _ (isnt16 (a .tag .now) (c .if3 .taken)))
+
+record-refusal-requires : tie.Need-record-refusal-requires
+record-refusal-requires c κs = search needs
+
+returns-4 : tie.Need-returns-4
+returns-4 c =
+    let a = c .before .before .before .before .before .before .before .args in
+    c .record-refusal .ensures ∙ sym (row-passes 1 _ _ (is16 (a .key .now) (c .before .before .before .if1 .left)) ∙ row-passes 2 _ _ (is16 (a .iv .now) (c .before .before .if2 .left)) ∙ row-passes 3 _ _ (is16 (a .tag .now) (c .before .if3 .left)))
+
+pub test-refusal-spec : {M : Type 1} → statement M
+test-refusal-spec =
+    tie.close (tie.spec returns returns-2 returns-3 record-refusal-requires returns-4)

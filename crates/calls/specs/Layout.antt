@@ -1,0 +1,27 @@
+-- A run laid out in an output that holds zeros.
+use mathlib.Core.Path.{_≡_}
+use mathlib.Core.Bool.{Bool, true, false}
+use mathlib.Core.List.{List}
+use Prim.Native.Nat.{ℕ, _+_, _*_, _/_}
+use lib.ListN.{length}
+use Rattle.blocks.specs.Bytes.{zeros}
+use Rattle.mode.specs.Mode.{padded}
+use Rattle.mode.specs.Calls.{Kind, middle, last}
+
+-- it holds zeros
+pub record Fresh (out : List ℕ) : Type 0 where
+  pub zero : out ≡ zeros (length out)
+
+-- document 01's middle and last runs, by the code's flag
+unfoldable pub kindOf : Bool → Kind
+kindOf true = last
+kindOf false = middle
+
+-- the bytes, and the padding of a last run
+unfoldable pub laidOut : Bool → List ℕ → List ℕ
+laidOut true bytes = padded bytes
+laidOut false bytes = bytes
+
+unfoldable pub laidOutLength : Bool → ℕ → ℕ
+laidOutLength true n = n / 16 * 16 + 16
+laidOutLength false n = n

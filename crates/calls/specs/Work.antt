@@ -1,0 +1,79 @@
+-- What the functions below the calls ask and give, once nothing is refused.
+use mathlib.Core.Path.{_≡_}
+use mathlib.Core.Bool.{Bool, not}
+use mathlib.Core.List.{List, [], _∷_, _++_}
+use mathlib.Core.Option.{Option, some, none as no-message}
+use Prim.Native.Nat.{ℕ, _+_, _*_, _/_, _%_, _-_, _≤_}
+use lib.ListN.{length}
+use Rattle.blocks.specs.Bytes.{zeros}
+use Rattle.fips197.specs.KeyExpansion.{keyExpansion}
+use Rattle.mode.specs.declared.RunRecord.{RunRecord}
+use Rattle.mode.specs.Mode.{Pass, ciphertext, blocksOf, startMask, unbrokenTag, ivPart, cipherPart}
+use Rattle.mode.specs.Aes.{aes}
+use Rattle.mode.specs.Table.{decide, not16, notSealed, beyond, notWhole, tooShort}
+use Rattle.mode.specs.declared.Written.{Written}
+use Rattle.mode.specs.declared.RunAnswer.{RunAnswer}
+use Rattle.mode.specs.Calls.{Outcome, outcomeBy, blank, plaintextOf, unpadded, notPadded, orEmpty}
+
+-- a key schedule and a start mask
+pub record Prepares (key iv keys start : List ℕ) : Type 0 where
+  pub expanded : keys ≡ keyExpansion 4 10 key
+  pub started : start ≡ startMask aes key iv
+
+-- a text sealed in front of an output, of which this many bytes are left
+pub record TextSealed (p : Pass) (left : ℕ) (new mask preauthenticator : List ℕ) : Type 0 where
+  pub written : new ≡ p .output ++ zeros left
+  pub masked : mask ≡ p .mask
+  pub authenticated : preauthenticator ≡ p .preauthenticator
+
+-- the rows that go by the record that is closed
+abbrev pub recordRows : RunRecord → List (ℕ × Bool)
+recordRows r = (4, beyond (r .first) (r .count)) ∷ (9, notWhole r) ∷ []
+
+-- the rows of a test that go by lengths and numbers: all but 6
+abbrev pub testFirstRows : List ℕ → List ℕ → RunRecord → List ℕ → List (ℕ × Bool)
+testFirstRows key iv r tag = (1, not16 key) ∷ (2, not16 iv) ∷ (3, not16 tag) ∷ recordRows r
+
+-- the rows of opening that go by lengths: all but 6 and 7
+abbrev pub openFirstRows : List ℕ → List ℕ → ℕ → List (ℕ × Bool)
+openFirstRows key sealed room =
+    (1, not16 key)
+    ∷ (3, notSealed sealed)
+    ∷ (5, tooShort room (length (cipherPart sealed)))
+    ∷ []
+
+-- a run's answer as the code gives it: with nothing refused, and with a refusal
+abbrev pub runGiven : ℕ → RunRecord → RunAnswer
+runGiven n r = record { refusal = 0; length = n; run = r }
+
+abbrev pub refusedRun : ℕ → RunAnswer
+refusedRun n = record { refusal = n; length = 0; run = blank }
+
+-- what a call that writes answers, with nothing refused
+abbrev pub writtenGiven : ℕ → Written
+writtenGiven n = record { refusal = 0; length = n }
+
+-- ---- opening
+
+-- a length that opening takes
+pub record SealedLengths (sealed : List ℕ) : Type 0 where
+  pub least : 48 ≤ length sealed
+  pub aligned : length sealed % 16 ≡ 0
+
+-- the plaintext in front of an output, and the tag that the ciphertext gives
+pub record TextOpened (key sealed : List ℕ) (room : ℕ) (new tag : List ℕ) : Type 0 where
+  pub written : new ≡ plaintextOf aes key sealed ++ zeros (room - (length sealed - 32))
+  pub long : length (plaintextOf aes key sealed) ≡ length sealed - 32
+  pub tagged : tag ≡ unbrokenTag aes ciphertext key (ivPart sealed) (blocksOf (cipherPart sealed))
+
+-- where the message ends in a padded text; its length where it is not padded
+unfoldable pub endBy : Option (List ℕ) → ℕ → ℕ
+endBy no-message n = n
+endBy (some message) n = length message
+
+unfoldable pub messageEnd : List ℕ → ℕ
+messageEnd text = endBy (unpadded text) (length text)
+
+-- what opening comes to once the tag is right: the message, or 7
+unfoldable pub released : List ℕ → ℕ → Outcome (List ℕ)
+released text room = let message = orEmpty (unpadded text) in outcomeBy (decide ((7, notPadded (unpadded text)) ∷ []) message) message room

@@ -1,0 +1,145 @@
+// Open a sealed record.
+use mode::Written;
+ghost use mathlib.Core.Path.{_≡_};
+ghost use mathlib.Core.List.{_++_};
+ghost use Prim.Native.Nat.{_-_, _%_, _≤_};
+ghost use lib.ListN.{length, take};
+ghost use Rattle.blocks.specs.Bytes.{zeros};
+ghost use Rattle.mode.specs.Mode.{cipherPart};
+ghost use Rattle.mode.specs.Aes.{aes};
+ghost use Rattle.mode.specs.Table.{firstRow, notSealed};
+ghost use Rattle.mode.specs.Calls.{openSealed, writtenOf};
+ghost use Rattle.calls.specs.Layout.{Fresh};
+ghost use Rattle.calls.specs.Work.{openFirstRows, messageEnd, released, SealedLengths, TextOpened};
+
+// The longest sealed record, and the shortest: an IV, a block and a tag.
+const LONGEST: usize = 64032;
+
+const SHORTEST: usize = 48;
+
+// The first of the rows that go by lengths, or 0.
+fn open_refusal(key: &[u8], sealed: &[u8], room: usize) -> u8
+    ensures { λ n. ⌜ n ≡ firstRow (openFirstRows (now (key .entry)) (now (sealed .entry)) room) ⌝ }
+{
+    if key.len() != 16 {
+        return 1;
+    }
+    if sealed.len() < SHORTEST {
+        return 3;
+    }
+    if LONGEST < sealed.len() {
+        return 3;
+    }
+    if sealed.len() % 16 != 0 {
+        return 3;
+    }
+    if room < sealed.len() - 32 {
+        return 5;
+    }
+    0
+}
+
+// ---- padding
+
+// Where the padding starts, or the length where the text is not padded: 80, and up to 15 zeros after it.
+fn message_end(text: &[u8]) -> usize
+    requires { ⌜ 16 ≤ length (now text) ⌝ }
+    requires { ⌜ length (now text) % 16 ≡ 0 ⌝ }
+    ensures { λ n. ⌜ n ≡ messageEnd (now (text .entry)) ⌝ }
+{
+    let size = text.len();
+    let mut end = size;
+    let mut left: usize = 16;
+    while left > 0 {
+        end -= 1;
+        left -= 1;
+        let byte = text[end];
+        if byte == 0x80 {
+            return end;
+        }
+        if byte != 0 {
+            return size;
+        }
+    }
+    size
+}
+
+// Lets the message out, and nothing where the text is not padded.
+fn release(size: usize, out: &mut [u8]) -> Written
+    requires { ⌜ 16 ≤ size ⌝ }
+    requires { ⌜ size % 16 ≡ 0 ⌝ }
+    requires { ⌜ size ≤ length (now out) ⌝ }
+    ensures answer { λ a. ⌜ a ≡ writtenOf (released (take size (now (out .entry))) (length (now (out .entry)))) ⌝ }
+    ensures output { λ _. ⌜ now (out .exit) ≡ (released (take size (now (out .entry))) (length (now (out .entry)))) .output ⌝ }
+{
+    let end = message_end(&out[..size]);
+    if end == size {
+        blocks::block::clear(out);
+        return Written {
+            refusal: 7,
+            length: 0,
+        };
+    }
+    blocks::block::clear(&mut out[end..]);
+    Written {
+        refusal: 0,
+        length: end,
+    }
+}
+
+// ---- opening
+
+// The plaintext into an output that holds zeros. The answer is the tag that the ciphertext gives.
+fn open_text(key: &[u8], sealed: &[u8], out: &mut [u8]) -> [u8; 16]
+    requires { ⌜ length (now key) ≡ 16 ⌝ }
+    requires { ⌜ SealedLengths (now sealed) ⌝ }
+    requires { ⌜ Fresh (now out) ⌝ }
+    requires { ⌜ length (now sealed) - 32 ≤ length (now out) ⌝ }
+    ensures { λ t. ⌜ TextOpened (now (key .entry)) (now (sealed .entry)) (length (now (out .entry))) (now (out .exit)) t ⌝ }
+{
+    let sbox = &aes::sbox::SBOX;
+    let inv_sbox = &aes::inv_sbox::INV_SBOX;
+    let stop = sealed.len() - 16;
+    let size = sealed.len() - 32;
+    let p = crate::prepare::prepare(key, &sealed[..16]);
+    let keys = p.keys;
+    let start = p.start;
+    crate::text::lay_out(&sealed[16..stop], false, out);
+    let chain = runs::run::open_blocks(start, &keys, inv_sbox, &mut out[..size]);
+    let mask = chain.mask;
+    let preauthenticator = chain.preauthenticator;
+    runs::mask::tag(preauthenticator, mask, &keys, sbox)
+}
+
+// All 16 bytes of the tag are compared before anything is let out.
+fn open_into(key: &[u8], sealed: &[u8], out: &mut [u8]) -> Written
+    requires { ⌜ firstRow (openFirstRows (now key) (now sealed) (length (now out))) ≡ 0 ⌝ }
+    requires { ⌜ Fresh (now out) ⌝ }
+    ensures answer { λ a. ⌜ a ≡ writtenOf (openSealed aes (now (key .entry)) (now (sealed .entry)) (length (now (out .entry)))) ⌝ }
+    ensures output { λ _. ⌜ now (out .exit) ≡ (openSealed aes (now (key .entry)) (now (sealed .entry)) (length (now (out .entry)))) .output ⌝ }
+{
+    let tag = open_text(key, sealed, out);
+    let stop = sealed.len() - 16;
+    let given = blocks::block::load(sealed, stop);
+    if !blocks::block::equal(tag, given) {
+        blocks::block::clear(out);
+        return Written {
+            refusal: 6,
+            length: 0,
+        };
+    }
+    release(sealed.len() - 32, out)
+}
+
+// OPEN a sealed record under a key: the message is written to the front of the output.
+pub fn open(key: &[u8], sealed: &[u8], out: &mut [u8]) -> Written
+    ensures answer { λ a. ⌜ a ≡ writtenOf (openSealed aes (now (key .entry)) (now (sealed .entry)) (length (now (out .entry)))) ⌝ }
+    ensures output { λ _. ⌜ now (out .exit) ≡ (openSealed aes (now (key .entry)) (now (sealed .entry)) (length (now (out .entry)))) .output ⌝ }
+{
+    blocks::block::clear(out);
+    let refusal = open_refusal(key, sealed, out.len());
+    if refusal != 0 {
+        return Written { refusal, length: 0 };
+    }
+    open_into(key, sealed, out)
+}

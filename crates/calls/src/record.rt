@@ -1,0 +1,101 @@
+// Close a record, test a tag.
+use mode::RunRecord;
+use mode::TagAnswer;
+ghost use mathlib.Core.Path.{_≡_};
+ghost use lib.ListN.{length};
+ghost use Rattle.mode.specs.Aes.{aes};
+ghost use Rattle.mode.specs.Table.{firstRow};
+ghost use Rattle.mode.specs.Calls.{closeRows, closingTag, close as closeOf, test as testOf, tagAnswerOf, number};
+ghost use Rattle.calls.specs.Work.{recordRows, testFirstRows};
+
+// The first of the rows 4 and 9 that holds of a record that is to be closed, or 0.
+fn record_refusal(run: RunRecord) -> u8
+    ensures { λ n. ⌜ n ≡ firstRow (recordRows run) ⌝ }
+{
+    if mode::LIMIT < run.first as u64 + run.count as u64 {
+        return 4;
+    }
+    if run.first != 0 {
+        return 9;
+    }
+    if run.count == 0 {
+        return 9;
+    }
+    0
+}
+
+// The first row of the table that holds, or 0.
+fn close_refusal(key: &[u8], iv: &[u8], run: RunRecord) -> u8
+    ensures { λ n. ⌜ n ≡ firstRow (closeRows (now (key .entry)) (now (iv .entry)) run) ⌝ }
+{
+    if key.len() != 16 {
+        return 1;
+    }
+    if iv.len() != 16 {
+        return 2;
+    }
+    record_refusal(run)
+}
+
+// The first of the rows that go by lengths and numbers, or 0.
+fn test_refusal(key: &[u8], iv: &[u8], run: RunRecord, tag: &[u8]) -> u8
+    ensures { λ n. ⌜ n ≡ firstRow (testFirstRows (now (key .entry)) (now (iv .entry)) run (now (tag .entry))) ⌝ }
+{
+    if key.len() != 16 {
+        return 1;
+    }
+    if iv.len() != 16 {
+        return 2;
+    }
+    if tag.len() != 16 {
+        return 3;
+    }
+    record_refusal(run)
+}
+
+// The tag of a whole record: the start mask is jumped by the count.
+fn closing_tag(key: &[u8], iv: &[u8], run: RunRecord) -> [u8; 16]
+    requires { ⌜ length (now key) ≡ 16 ⌝ }
+    requires { ⌜ length (now iv) ≡ 16 ⌝ }
+    ensures { λ t. ⌜ t ≡ closingTag aes (now (key .entry)) (now (iv .entry)) run ⌝ }
+{
+    let sbox = &aes::sbox::SBOX;
+    let p = crate::prepare::prepare(key, iv);
+    let keys = p.keys;
+    let start = p.start;
+    let mask = blocks::gf128::jump(start, run.count);
+    let preauthenticator = run.preauthenticator;
+    runs::mask::tag(preauthenticator, mask, &keys, sbox)
+}
+
+// CLOSE a record into its tag.
+pub fn close(key: &[u8], iv: &[u8], run: RunRecord) -> TagAnswer
+    ensures { λ a. ⌜ a ≡ tagAnswerOf (closeOf aes (now (key .entry)) (now (iv .entry)) run) ⌝ }
+{
+    let refusal = close_refusal(key, iv, run);
+    if refusal != 0 {
+        return TagAnswer {
+            refusal,
+            tag: [0u8; 16],
+        };
+    }
+    let tag = closing_tag(key, iv, run);
+    TagAnswer { refusal: 0, tag }
+}
+
+// TEST a tag against a record: 0 where closing gives that tag, or the number of the refusal.
+pub fn test(key: &[u8], iv: &[u8], run: RunRecord, tag: &[u8]) -> u8
+    ensures { λ n. ⌜ n ≡ number (testOf aes (now (key .entry)) (now (iv .entry)) run (now (tag .entry))) ⌝ }
+{
+    let refusal = test_refusal(key, iv, run, tag);
+    if refusal != 0 {
+        return refusal;
+    }
+    let closed = closing_tag(key, iv, run);
+    let given = blocks::block::load(tag, 0);
+    if blocks::block::equal(closed, given) {
+        0
+    } else {
+        6
+    }
+}

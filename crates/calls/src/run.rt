@@ -1,0 +1,164 @@
+// Seal a run, check a run.
+use mode::RecordAnswer;
+use mode::RunAnswer;
+use mode::RunRecord;
+ghost use mathlib.Core.Path.{_≡_};
+ghost use mathlib.Core.List.{_++_};
+ghost use Prim.Native.Nat.{_+_, _-_, _%_, _/_, _≤_};
+ghost use lib.ListN.{length};
+ghost use Rattle.blocks.specs.Bytes.{zeros};
+ghost use Rattle.mode.specs.Mode.{plaintext, ciphertext, blocksOf};
+ghost use Rattle.mode.specs.Aes.{aes};
+ghost use Rattle.mode.specs.Table.{firstRow, limit};
+ghost use Rattle.mode.specs.Calls.{sealRunRows, checkRunRows, blocksOfRun, passFrom, runRecord, sealRun, checkRun, runAnswerOf, recordAnswerOf};
+ghost use Rattle.calls.specs.Layout.{Fresh, kindOf, laidOutLength};
+ghost use Rattle.calls.specs.Work.{runGiven, refusedRun};
+
+// ---- seal
+
+// The first row of the table that holds, or 0.
+fn seal_run_refusal(key: &[u8], iv: &[u8], first: u32, last: bool, bytes: &[u8], room: usize) -> u8
+    ensures { λ n. ⌜ n ≡ firstRow (sealRunRows (now (key .entry)) (now (iv .entry)) first (kindOf last) (now (bytes .entry)) room) ⌝ }
+{
+    if key.len() != 16 {
+        return 1;
+    }
+    if iv.len() != 16 {
+        return 2;
+    }
+    let size = crate::text::laid_out_length(bytes, last);
+    if size % 16 != 0 {
+        return 3;
+    }
+    if mode::LIMIT < first as u64 + (size / 16) as u64 {
+        return 4;
+    }
+    if room < size {
+        return 5;
+    }
+    0
+}
+
+fn seal_run_into(
+    key: &[u8],
+    iv: &[u8],
+    first: u32,
+    last: bool,
+    bytes: &[u8],
+    out: &mut [u8],
+) -> RunAnswer
+    requires { ⌜ length (now key) ≡ 16 ⌝ }
+    requires { ⌜ length (now iv) ≡ 16 ⌝ }
+    requires { ⌜ Fresh (now out) ⌝ }
+    requires { ⌜ laidOutLength last (length (now bytes)) ≤ length (now out) ⌝ }
+    requires { ⌜ laidOutLength last (length (now bytes)) % 16 ≡ 0 ⌝ }
+    requires { ⌜ laidOutLength last (length (now bytes)) / 16 ≤ limit ⌝ }
+    ensures answer { λ a. ⌜ a ≡ runGiven (laidOutLength last (length (now (bytes .entry)))) (runRecord aes plaintext (now (key .entry)) (now (iv .entry)) first (blocksOfRun (kindOf last) (now (bytes .entry)))) ⌝ }
+    ensures output { λ _. ⌜ now (out .exit) ≡ (passFrom aes plaintext (now (key .entry)) (now (iv .entry)) first (blocksOfRun (kindOf last) (now (bytes .entry)))) .output ++ zeros (length (now (out .entry)) - laidOutLength last (length (now (bytes .entry)))) ⌝ }
+{
+    let sbox = &aes::sbox::SBOX;
+    let p = crate::prepare::prepare(key, iv);
+    let keys = p.keys;
+    let start = p.start;
+    let mask = blocks::gf128::jump(start, first);
+    let chain = crate::text::seal_text(bytes, last, mask, &keys, sbox, out);
+    let size = crate::text::laid_out_length(bytes, last);
+    let preauthenticator = chain.preauthenticator;
+    RunAnswer {
+        refusal: 0,
+        length: size,
+        run: RunRecord {
+            first,
+            count: (size / 16) as u32,
+            preauthenticator,
+        },
+    }
+}
+
+// SEAL A RUN that starts at block `first`: a middle run of whole blocks, or a last one, which gets the padding. The ciphertext is
+// written to the front of the output.
+pub fn seal_run(
+    key: &[u8],
+    iv: &[u8],
+    first: u32,
+    last: bool,
+    bytes: &[u8],
+    out: &mut [u8],
+) -> RunAnswer
+    ensures answer { λ a. ⌜ a ≡ runAnswerOf (sealRun aes (now (key .entry)) (now (iv .entry)) first (kindOf last) (now (bytes .entry)) (length (now (out .entry)))) ⌝ }
+    ensures output { λ _. ⌜ now (out .exit) ≡ (sealRun aes (now (key .entry)) (now (iv .entry)) first (kindOf last) (now (bytes .entry)) (length (now (out .entry)))) .output ⌝ }
+{
+    blocks::block::clear(out);
+    let refusal = seal_run_refusal(key, iv, first, last, bytes, out.len());
+    if refusal != 0 {
+        return refused(refusal);
+    }
+    seal_run_into(key, iv, first, last, bytes, out)
+}
+
+fn refused(refusal: u8) -> RunAnswer
+    ensures { λ a. ⌜ a ≡ refusedRun refusal ⌝ }
+{
+    RunAnswer {
+        refusal,
+        length: 0,
+        run: RunRecord {
+            first: 0,
+            count: 0,
+            preauthenticator: [0u8; 16],
+        },
+    }
+}
+
+// ---- check
+
+// The first row of the table that holds, or 0.
+fn check_run_refusal(key: &[u8], iv: &[u8], first: u32, bytes: &[u8]) -> u8
+    ensures { λ n. ⌜ n ≡ firstRow (checkRunRows (now (key .entry)) (now (iv .entry)) first (now (bytes .entry))) ⌝ }
+{
+    if key.len() != 16 {
+        return 1;
+    }
+    if iv.len() != 16 {
+        return 2;
+    }
+    if bytes.len() % 16 != 0 {
+        return 3;
+    }
+    if mode::LIMIT < first as u64 + (bytes.len() / 16) as u64 {
+        return 4;
+    }
+    0
+}
+
+fn check_run_record(key: &[u8], iv: &[u8], first: u32, bytes: &[u8]) -> RunRecord
+    requires { ⌜ length (now key) ≡ 16 ⌝ }
+    requires { ⌜ length (now iv) ≡ 16 ⌝ }
+    requires { ⌜ length (now bytes) / 16 ≤ limit ⌝ }
+    ensures { λ r. ⌜ r ≡ runRecord aes ciphertext (now (key .entry)) (now (iv .entry)) first (blocksOf (now (bytes .entry))) ⌝ }
+{
+    let inv_sbox = &aes::inv_sbox::INV_SBOX;
+    let p = crate::prepare::prepare(key, iv);
+    let keys = p.keys;
+    let start = p.start;
+    let mask = blocks::gf128::jump(start, first);
+    let chain = runs::run::check_blocks(mask, &keys, inv_sbox, bytes);
+    let preauthenticator = chain.preauthenticator;
+    RunRecord {
+        first,
+        count: (bytes.len() / 16) as u32,
+        preauthenticator,
+    }
+}
+
+// CHECK A RUN of ciphertext: the record that sealing would give.
+pub fn check_run(key: &[u8], iv: &[u8], first: u32, bytes: &[u8]) -> RecordAnswer
+    ensures { λ a. ⌜ a ≡ recordAnswerOf (checkRun aes (now (key .entry)) (now (iv .entry)) first (now (bytes .entry))) ⌝ }
+{
+    let refusal = check_run_refusal(key, iv, first, bytes);
+    if refusal != 0 {
+        return mode::refused(refusal);
+    }
+    let run = check_run_record(key, iv, first, bytes);
+    RecordAnswer { refusal: 0, run }
+}

@@ -1,0 +1,75 @@
+// Seal a message.
+use mode::Written;
+ghost use mathlib.Core.Path.{_≡_};
+ghost use mathlib.Core.List.{_++_};
+ghost use Prim.Native.Nat.{_+_, _*_, _-_, _/_, _≤_};
+ghost use lib.ListN.{length};
+ghost use Rattle.blocks.specs.Bytes.{zeros};
+ghost use Rattle.mode.specs.Mode.{sealedRecord};
+ghost use Rattle.mode.specs.Aes.{aes};
+ghost use Rattle.mode.specs.Table.{firstRow};
+ghost use Rattle.mode.specs.Calls.{sealRows, seal as sealOf, writtenOf};
+ghost use Rattle.calls.specs.Layout.{Fresh};
+ghost use Rattle.calls.specs.Work.{writtenGiven};
+
+// The longest message: its padding fills the last block of the limit.
+const LONGEST: usize = 63999;
+
+// The first row of the table that holds, or 0.
+fn seal_refusal(key: &[u8], iv: &[u8], message: &[u8], room: usize) -> u8
+    ensures { λ n. ⌜ n ≡ firstRow (sealRows aes (now (key .entry)) (now (iv .entry)) (now (message .entry)) room) ⌝ }
+{
+    if key.len() != 16 {
+        return 1;
+    }
+    if iv.len() != 16 {
+        return 2;
+    }
+    if LONGEST < message.len() {
+        return 3;
+    }
+    if room < message.len() / 16 * 16 + 48 {
+        return 5;
+    }
+    0
+}
+
+// The IV, the ciphertext and the tag.
+fn seal_into(key: &[u8], iv: &[u8], message: &[u8], out: &mut [u8]) -> Written
+    requires { ⌜ length (now key) ≡ 16 ⌝ }
+    requires { ⌜ length (now iv) ≡ 16 ⌝ }
+    requires { ⌜ Fresh (now out) ⌝ }
+    requires { ⌜ length (now message) / 16 * 16 + 48 ≤ length (now out) ⌝ }
+    ensures answer { λ a. ⌜ a ≡ writtenGiven (length (now (message .entry)) / 16 * 16 + 48) ⌝ }
+    ensures output { λ _. ⌜ now (out .exit) ≡ sealedRecord aes (now (key .entry)) (now (iv .entry)) (now (message .entry)) ++ zeros (length (now (out .entry)) - (length (now (message .entry)) / 16 * 16 + 48)) ⌝ }
+{
+    let sbox = &aes::sbox::SBOX;
+    let p = crate::prepare::prepare(key, iv);
+    let keys = p.keys;
+    let start = p.start;
+    let v = blocks::block::load(iv, 0);
+    blocks::block::store(out, 0, v);
+    let chain = crate::text::seal_text(message, true, start, &keys, sbox, &mut out[16..]);
+    let mask = chain.mask;
+    let preauthenticator = chain.preauthenticator;
+    let tag = runs::mask::tag(preauthenticator, mask, &keys, sbox);
+    let at = crate::text::laid_out_length(message, true) + 16;
+    blocks::block::store(out, at, tag);
+    Written {
+        refusal: 0,
+        length: at + 16,
+    }
+}
+
+// SEAL a message under a key and an IV: the sealed record is written to the front of the output.
+pub fn seal(key: &[u8], iv: &[u8], message: &[u8], out: &mut [u8]) -> Written
+    ensures answer { λ a. ⌜ a ≡ writtenOf (sealOf aes (now (key .entry)) (now (iv .entry)) (now (message .entry)) (length (now (out .entry)))) ⌝ }
+    ensures output { λ _. ⌜ now (out .exit) ≡ (sealOf aes (now (key .entry)) (now (iv .entry)) (now (message .entry)) (length (now (out .entry)))) .output ⌝ }
+{
+    blocks::block::clear(out);
+    let refusal = seal_refusal(key, iv, message, out.len());
+    if refusal != 0 {
+        return Written { refusal, length: 0 };
+    }
+    seal_into(key, iv, message, out)
+}

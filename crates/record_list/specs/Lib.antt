@@ -1,0 +1,2 @@
+-- Onto: a list of records, joined one after the other.
+pub mod Onto
