@@ -56,22 +56,24 @@ fn seal_run_into(
     ensures answer { λ a. ⌜ a ≡ runGiven (laidOutLength last (length (now (bytes .entry)))) (runRecord aes plaintext (now (key .entry)) (now (iv .entry)) first (blocksOfRun (kindOf last) (now (bytes .entry)))) ⌝ }
     ensures output { λ _. ⌜ now (out .exit) ≡ (passFrom aes plaintext (now (key .entry)) (now (iv .entry)) first (blocksOfRun (kindOf last) (now (bytes .entry)))) .output ++ zeros (length (now (out .entry)) - laidOutLength last (length (now (bytes .entry)))) ⌝ }
 {
+    let size = crate::text::laid_out_length(bytes, last);
+    let count = (size / 16) as u32;
     let sbox = &aes::sbox::SBOX;
     let p = crate::prepare::prepare(key, iv);
     let keys = p.keys;
     let start = p.start;
-    let mask = blocks::gf128::jump(start, first);
-    let chain = crate::text::seal_text(bytes, last, mask, &keys, sbox, out);
-    let size = crate::text::laid_out_length(bytes, last);
+    let first_mask = blocks::gf128::jump(start, first);
+    let chain = crate::text::seal_text(bytes, last, first_mask, &keys, sbox, out);
     let preauthenticator = chain.preauthenticator;
+    let run = RunRecord {
+        first,
+        count,
+        preauthenticator,
+    };
     RunAnswer {
         refusal: 0,
         length: size,
-        run: RunRecord {
-            first,
-            count: (size / 16) as u32,
-            preauthenticator,
-        },
+        run,
     }
 }
 

@@ -17,7 +17,7 @@ use Rattle.blocks.proofs.XorBytes.{bytes-xor, xorBytes-cancel}
 use Rattle.blocks.proofs.TimesX.{length-timesX, length-jump, block-timesX}
 use Rattle.mode.specs.Mode.{Cipher, Lawful, Source, plaintext, ciphertext, Pass, RunRecord, zeroBlock, encrypt, startMask, middletext, written, pass, unbroken, tagFrom, unbrokenTag, blocksOf, padded, ivPart, cipherPart, tagPart, sealedRecord, recordOf, UnbrokenCheck}
 use Rattle.mode.specs.Table.{Answer, refused, given, decide, not16, unaligned, notSealed, tableOrder, inOrder, longestMessage, longestSealed}
-use Rattle.mode.specs.Calls.{unpadded, notPadded, orEmpty, decrypted, plaintextOf, openRows, openSealed, sealRows, sealRunRows, checkRunRows, joinTwoRows, joinListRows, closeRows, testRows, Kind, Outcome, outcomeBy, seal}
+use Rattle.mode.specs.Calls.{unpadded, notPadded, orEmpty, decrypted, plaintextOf, openRows, openSealed, sealRows, sealRunRows, checkRunRows, joinTwoRows, joinListRows, closeRows, testRows, jumpRows, Kind, Outcome, outcomeBy, seal}
 use Rattle.mode.specs.Demands.{SealedFrom, Demand2, CheckedAsOpened}
 use Rattle.mode.proofs.Laws.{AllLong, xor-long, pass-mask, preauthenticator-long, start-long}
 use Rattle.mode.proofs.Blocks.{length-padded, count-middle}
@@ -493,6 +493,7 @@ pub record RowsInOrder (c : Cipher) : Type 0 where
   pub join-list-rows : (rs : List RunRecord) → inOrder tableOrder (joinListRows rs) ≡ true
   pub close-rows : (key iv : List ℕ) (r : RunRecord) → inOrder tableOrder (closeRows key iv r) ≡ true
   pub test-rows : (key iv : List ℕ) (r : RunRecord) (tag : List ℕ) → inOrder tableOrder (testRows c key iv r tag) ≡ true
+  pub jump-rows : (mask : List ℕ) (distance room : ℕ) → inOrder tableOrder (jumpRows mask distance room) ≡ true
 
 pub rows-in-order : (c : Cipher) → RowsInOrder c
 unfolding inOrder openRows
@@ -506,6 +507,7 @@ rows-in-order c =
       join-list-rows = λ rs. refl;
       close-rows = λ key iv r. refl;
       test-rows = λ key iv r tag. refl;
+      jump-rows = λ mask distance room. refl;
     }
 
 -- DEMAND 1: beside a number the whole lent output is zeros

@@ -10,5 +10,6 @@ pub mod Demand3
 pub mod Bytes
 pub mod Demand2
 pub mod Records
+pub mod NoDifference
 pub mod Demands
 pub mod Witness

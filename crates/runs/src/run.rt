@@ -41,12 +41,12 @@ pub fn seal_blocks(mask: [u8; 16], keys: &[u8; 176], sbox: &[u8; 256], text: &mu
         let masked = blocks::block::xor(block, m);
         let middle = aes::forward::first_half(masked, keys, sbox);
         let whole = aes::forward::second_half(middle, keys, sbox);
-        let written = blocks::block::xor(whole, m);
-        blocks::block::store(text, at, written);
+        let sealed = blocks::block::xor(whole, m);
+        blocks::block::store(text, at, sealed);
         let next_p = take_up(p, middle);
         p = next_p;
         let next_m = blocks::gf128::times_x(m);
-        m = next_m;
+        m = next_m; // after the last block, the mask that the tag takes
         i += 1;
     }
     Chain {
@@ -68,11 +68,11 @@ pub fn open_blocks(mask: [u8; 16], keys: &[u8; 176], inv_sbox: &[u8; 256], text:
     while i < n {
         let at = i * 16;
         let block = blocks::block::load(text, at);
-        let masked = blocks::block::xor(block, m);
-        let middle = aes::backward::inv_second_half(masked, keys, inv_sbox);
+        let unmasked = blocks::block::xor(block, m);
+        let middle = aes::backward::inv_second_half(unmasked, keys, inv_sbox);
         let whole = aes::backward::inv_first_half(middle, keys, inv_sbox);
-        let written = blocks::block::xor(whole, m);
-        blocks::block::store(text, at, written);
+        let opened = blocks::block::xor(whole, m);
+        blocks::block::store(text, at, opened);
         let next_p = take_up(p, middle);
         p = next_p;
         let next_m = blocks::gf128::times_x(m);

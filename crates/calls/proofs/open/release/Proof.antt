@@ -49,10 +49,10 @@ returns c =
     (x .0, c .before .before .clear .ensures ∙ x .1)
 
 sub-clear : tie.Need-sub-clear
-sub-clear c = within (c .before)
+sub-clear c = let w = within (c .before) in omega (arith, w, c .before .before .before .before .pre .1 .1)
 
 part-clear-start : tie.Need-part-clear-start
-part-clear-start c = within (c .before)
+part-clear-start c = let w = within (c .before) in omega (arith, w, c .before .before .before .before .pre .1 .1)
 
 part-clear-end : tie.Need-part-clear-end
 part-clear-end c = search needs

@@ -20,6 +20,12 @@ use borrow.Author.Needs.{needs}
 use Rattle.calls.proofs.run.seal_run_into.Statement.{statement}
 use Rattle.calls.proofs.run.seal_run_into.Tie as tie
 
+laid-out-length-requires : tie.Need-laid-out-length-requires
+laid-out-length-requires c κs = search needs
+
+cast-count : tie.Need-cast-count
+cast-count c = omega (arith, c .laid-out-length .ensures, c .before .before .before .before .before .pre .1 .1 .1 .1 .1)
+
 prepare-requires : tie.Need-prepare-requires
 prepare-requires c κs = search needs
 
@@ -28,15 +34,9 @@ jump-requires c κs = search needs
 
 seal-text-requires : tie.Need-seal-text-requires
 seal-text-requires c κs =
-    let s = c .before .before .before .before .before .before .before .before .before .before .before in
+    let s = c .before .before .before .before .before .before .before .before .before .before .before .before in
     let q = c .before .before .before .before .before .prepare in
     (schedule (s .args .key .now) (s .args .iv .now) _ _ (s .pre .0) (q .ensures), (sbox-table, (s .pre .1 .1 .0, (s .pre .1 .1 .1 .0, s .pre .1 .1 .1 .1 .0))))
-
-laid-out-length-requires : tie.Need-laid-out-length-requires
-laid-out-length-requires c κs = search needs
-
-cast-t20 : tie.Need-cast-t20
-cast-t20 c = omega (arith, c .before .laid-out-length .ensures, c .before .before .before .before .before .before .before .before .before .before .before .before .before .before .before .before .pre .1 .1 .1 .1 .1)
 
 same-length : tie.Need-same-length
 same-length c = search needs
@@ -46,13 +46,13 @@ unfolding runRecord passFrom
 returns c =
     let s = c .before .before .before .before .before .before .before .before .before .before .before .before .before .before .before .before in
     let a = s .args in
-    let q = c .before .before .before .before .before .before .before .before .before .before .prepare in
-    let x = c .before .before .before .before .seal-text in
-    let y = c .before .laid-out-length in
+    let q = c .before .before .before .before .before .before .before .before .before .prepare in
+    let x = c .before .before .before .seal-text in
+    let y = c .before .before .before .before .before .before .before .before .before .before .before .laid-out-length in
     let l = blocks-laidOut (a .last) (a .bytes .now) in
     let k = same-key (a .key .now) (a .iv .now) _ _ (s .pre .0) (q .ensures) in
-    let m = c .before .before .before .before .before .before .before .jump .ensures ∙ ap (jump (a .first)) (q .ensures .started) in
-    let p : pass aes plaintext (keyOf (q .result .keys)) (blocksOf (laidOut (a .last) (a .bytes .now))) (c .before .before .before .before .before .before .before .jump .result) zeroBlock ≡ passFrom aes plaintext (a .key .now) (a .iv .now) (a .first) (blocksOfRun (kindOf (a .last)) (a .bytes .now)) =
+    let m = c .before .before .before .before .before .before .jump .ensures ∙ ap (jump (a .first)) (q .ensures .started) in
+    let p : pass aes plaintext (keyOf (q .result .keys)) (blocksOf (laidOut (a .last) (a .bytes .now))) (c .before .before .before .before .before .before .jump .result) zeroBlock ≡ passFrom aes plaintext (a .key .now) (a .iv .now) (a .first) (blocksOfRun (kindOf (a .last)) (a .bytes .now)) =
     λ i. pass aes plaintext (k i) (sym l i) (m i) zeroBlock in
     let n = ap (λ (z : ℕ). z / 16) (y .ensures) ∙ sym (count-laidOut (a .last) (a .bytes .now)) in
     let r = x .ensures .authenticated ∙ ap (λ (z : Pass). z .preauthenticator) p in (
@@ -64,10 +64,10 @@ pub seal-run-into-spec : {M : Type 1} → statement M
 seal-run-into-spec =
     tie.close
     (tie.spec
+    laid-out-length-requires
+    cast-count
     prepare-requires
     jump-requires
     seal-text-requires
-    laid-out-length-requires
-    cast-t20
     same-length
     returns)

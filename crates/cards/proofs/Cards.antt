@@ -1,0 +1,38 @@
+-- The whole table by one computation, and the laws.
+use mathlib.Core.Path.{_≡_, refl, ap, _∙_}
+use mathlib.Core.List.{List, [], _∷_}
+use Prim.Native.Nat.{ℕ, _+_, _≤_}
+use native.Mathlib.Omega.{arith}
+use borrow.Author.Tests.{le-ltb, eq-eqb}
+use Rattle.blocks.specs.Bytes.{xorBytes, firstBlocks}
+use Rattle.blocks.specs.Field.{step, times, mul}
+use Rattle.blocks.specs.Gf128.{fallen, shiftLeft, reduction, timesX, jump}
+use Rattle.fips197.specs.Gf256.{power, inverse}
+use Rattle.fips197.specs.Sbox.{affine, sbox}
+use Rattle.mode.specs.declared.RunRecord.{RunRecord}
+use Rattle.mode.specs.Mode.{zeroBlock, blocksOf, padded}
+use Rattle.mode.specs.Table.{given, decide, limit, not16, beyond, anyBeyond, apart}
+use Rattle.mode.specs.Calls.{blocksOfRun, outcomeBy, joined, joinTwo, jumpMask}
+use Rattle.mode.proofs.Blocks.{count-last}
+use Rattle.mode.proofs.Records.{joined-empty}
+use Rattle.cards.specs.Cards.{result, AllAgree, EmptyNeighbour, PaddedCount}
+
+pub all-agree : AllAgree
+unfolding result jumpMask outcomeBy decide not16 jump timesX shiftLeft fallen reduction xorBytes sbox affine inverse power mul times step blocksOfRun blocksOf firstBlocks padded joinTwo anyBeyond beyond apart joined
+all-agree = refl
+
+-- neighbours within the limit are joined
+join-neighbours : (l r : RunRecord) → l .first + l .count ≤ limit → r .first + r .count ≤ limit → l .first + l .count ≡ r .first → joinTwo l r ≡ given (joined l r)
+unfolding joinTwo decide anyBeyond beyond apart
+join-neighbours l r h k e =
+    rw (le-ltb limit (l .first + l .count) h, le-ltb limit (r .first + r .count) k, eq-eqb (l .first + l .count) (r .first) e) refl
+
+pub empty-neighbour : EmptyNeighbour
+empty-neighbour r h k =
+    let end = r .first + r .count in
+    join-neighbours r (record { first = end; count = 0; preauthenticator = zeroBlock }) k (omega arith) refl
+    ∙ ap (λ (q : RunRecord). given q) (joined-empty r end h)
+
+pub padded-count : PaddedCount
+unfolding blocksOfRun
+padded-count message = count-last message

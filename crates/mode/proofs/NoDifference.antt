@@ -1,0 +1,41 @@
+-- From demand 3: what two ways of cutting, ordering and joining have in common, and what the call that seals a whole message has in common
+-- with them.
+use mathlib.Core.Path.{_≡_, sym, ap, _∙_}
+use mathlib.Core.List.{List, [], _∷_, _++_}
+use Prim.Native.Nat.{ℕ}
+use Rattle.mode.specs.Mode.{Cipher, Lawful, RunRecord, plaintext, blocksOf, padded, unbroken, unbrokenTag, sealedRecord}
+use Rattle.mode.specs.Table.{Answer, refused, given}
+use Rattle.mode.specs.Calls.{callsOf, close, blocksOfRun}
+use Rattle.mode.specs.Parallel.{Work, sealing, ivOf, sourceOf, textOf, lastKind, allBlocks, Setting, WellFormed, Run, Segment, recorded, Call, MayStand, start, afterAll, EachCall}
+use Rattle.mode.specs.Demands.{Whole, whole, wholeTag}
+use Rattle.mode.proofs.Demand3.{demand3}
+
+-- a list of calls that may stand, over some cut, and that leaves a single filled place
+pub record Done (c : Cipher) (key : List ℕ) (work : Work) (r : RunRecord) (bytes : List ℕ) : Type 0 where
+  pub pieces : List (List ℕ)
+  pub formed : WellFormed (record { key = key; work = work; pieces = pieces })
+  pub calls : List Call
+  pub may : EachCall (callsOf c) (record { key = key; work = work; pieces = pieces }) MayStand (start (record { key = key; work = work; pieces = pieces })) calls
+  pub runs : List Run
+  pub one-left : afterAll (callsOf c) (record { key = key; work = work; pieces = pieces }) (start (record { key = key; work = work; pieces = pieces })) calls ≡ recorded runs r bytes ∷ []
+
+module _ (c : Cipher) (laws : Lawful c) (key : List ℕ) where
+  all-of : (work : Work) (r : RunRecord) (bytes : List ℕ) (d : Done c key work r bytes) → Whole c (callsOf c) (record { key = key; work = work; pieces = d .pieces }) r bytes
+  all-of work r bytes d = (demand3 c laws (record { key = key; work = work; pieces = d .pieces }) (d .formed) (d .calls) (d .may)) .single (d .runs) r bytes (d .one-left)
+
+  pub no-difference : (work : Work) (r q : RunRecord) (bytes text : List ℕ) → Done c key work r bytes → Done c key work q text
+      → (bytes ≡ text) × (close c key (ivOf work) r ≡ close c key (ivOf work) q)
+  unfolding whole wholeTag
+  no-difference work r q bytes text d e =
+      let one = all-of work r bytes d in
+      let two = all-of work q text e in
+      (one .ciphertext-whole ∙ sym (two .ciphertext-whole), one .closes-whole ∙ sym (two .closes-whole))
+
+  pub sealed-whole : (iv message bytes tag : List ℕ) (r : RunRecord) → Done c key (sealing iv message) r bytes → close c key iv r ≡ given tag
+      → iv ++ bytes ++ tag ≡ sealedRecord c key iv message
+  unfolding whole wholeTag sealedRecord ivOf sourceOf textOf lastKind allBlocks blocksOfRun
+  sealed-whole iv message bytes tag r d e =
+      let w = all-of (sealing iv message) r bytes d in
+      let a : given tag ≡ given (unbrokenTag c plaintext key iv (blocksOf (padded message))) = sym e ∙ w .closes-whole in
+      let t : tag ≡ unbrokenTag c plaintext key iv (blocksOf (padded message)) = cc in
+      λ i. iv ++ w .ciphertext-whole i ++ t i
