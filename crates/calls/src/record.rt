@@ -94,8 +94,7 @@ pub fn test(key: &[u8], iv: &[u8], run: RunRecord, tag: &[u8]) -> u8
     let closed = closing_tag(key, iv, run);
     let given = blocks::block::load(tag, 0);
     if blocks::block::equal(closed, given) {
-        0
-    } else {
-        6
+        return 0;
     }
+    6
 }
