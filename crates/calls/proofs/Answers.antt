@@ -1,19 +1,14 @@
 -- From the rows of a call and what its work gives to the call's answer and output.
-use mathlib.Core.Path.{_≡_, refl, sym, ap, ap₂, _∙_}
+use mathlib.Core.Path.{_≡_, refl, sym, ap, _∙_}
 use mathlib.Core.Bool.{Bool, true, false, cond, not}
 use mathlib.Core.List.{List, [], _∷_, _++_}
-use Prim.Native.Nat.{ℕ, zero, suc, _+_, _-_, _*_, _/_, _%_, _≤_}
-use native.Mathlib.Omega.{arith}
-use lib.Dec.{T, eqb}
+use Prim.Native.Nat.{ℕ, _+_, _-_}
+use lib.Dec.{T}
 use lib.ListN.{length}
 use Rattle.blocks.specs.Bytes.{zeros}
 use Rattle.mode.specs.declared.RunRecord.{RunRecord}
-use Rattle.mode.specs.declared.Written.{Written}
-use Rattle.mode.specs.declared.RunAnswer.{RunAnswer}
-use Rattle.mode.specs.declared.RecordAnswer.{RecordAnswer}
-use Rattle.mode.specs.declared.TagAnswer.{TagAnswer}
 use Rattle.mode.specs.Table.{Answer, refused, given, decide, firstRow}
-use Rattle.mode.specs.Calls.{Outcome, outcomeBy, blank, number, orElse, writtenOf, runAnswerOf, recordAnswerOf, tagAnswerOf, refusedRecord}
+use Rattle.mode.specs.Calls.{Outcome, outcomeBy, number, orElse, writtenOf, runAnswerOf, recordAnswerOf, tagAnswerOf, refusedRecord}
 use Rattle.mode.specs.Mode.{zeroBlock}
 use Rattle.mode.proofs.Rows.{numbered, first-refuses, first-passes, no-more-rows, outcome-refused, outcome-given}
 use Rattle.calls.specs.Work.{writtenGiven, runGiven, refusedRun}

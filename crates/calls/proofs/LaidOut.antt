@@ -1,7 +1,7 @@
 -- Runs laid out: lengths, blocks, and the table's conditions by the length.
-use mathlib.Core.Path.{_≡_, refl, sym, ap, ap₂, _∙_}
+use mathlib.Core.Path.{_≡_, refl, sym, ap, _∙_}
 use mathlib.Core.Bool.{Bool, true, false}
-use mathlib.Core.List.{List, [], _∷_, _++_, append-assoc}
+use mathlib.Core.List.{List, _∷_, _++_, append-assoc}
 use Prim.Native.Nat.{ℕ, zero, suc, _+_, _-_, _*_, _/_, _%_, _≤_, _<_}
 use native.Mathlib.Omega.{arith}
 use lib.ListN.{length, drop, set, length-replicate}
@@ -13,7 +13,7 @@ use Rattle.mode.specs.Mode.{plaintext, zeroBlock, startMask, blocksOf, padded}
 use Rattle.mode.specs.Aes.{aes}
 use Rattle.mode.specs.Calls.{blocksOfRun, unalignedRun, passFrom}
 use Rattle.mode.proofs.Aes.{aes-lawful}
-use Rattle.mode.proofs.Blocks.{length-padded, count-middle, count-last, aligned, run-long}
+use Rattle.mode.proofs.Blocks.{length-padded, count-middle, aligned, run-long}
 use Rattle.mode.proofs.Laws.{start-long}
 use Rattle.mode.proofs.Runs.{output-long}
 use Rattle.mode.proofs.Rows.{misaligned}

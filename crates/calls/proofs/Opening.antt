@@ -1,20 +1,19 @@
 -- Opening: where the message ends in a text, what is let out, and what the rows leave to decide.
 use mathlib.Core.Path.{_≡_, refl, sym, ap, ap₂, _∙_}
-use mathlib.Core.Bool.{Bool, true, false, cond, not}
+use mathlib.Core.Bool.{Bool, true, false, not}
 use mathlib.Core.List.{List, [], _∷_, _++_}
 use mathlib.Core.Option.{Option, some, none as no-message}
-use Prim.Native.Nat.{ℕ, zero, suc, _+_, _-_, _*_, _/_, _%_, _≤_, _<_}
+use Prim.Native.Nat.{ℕ, zero, suc, _+_, _-_, _%_, _≤_, _<_}
 use native.Mathlib.Nat.{le-of-eq}
 use native.Mathlib.Omega.{arith}
 use borrow.Author.Tests.{ltb-true, ltb-false}
-use lib.Dec.{T, ltb}
+use lib.Dec.{ltb}
 use lib.ListN.{length, take, drop, getD, length-drop}
 use lib.Seq.{getD-append-seam, getD-append-add, getD-drop, drop-cons, split-at, take-at, take-all, length-take-le}
 use Rattle.blocks.specs.Bytes.{zeros, same}
-use Rattle.mode.specs.declared.Written.{Written}
 use Rattle.mode.specs.Mode.{ciphertext, padded, blocksOf, ivPart, cipherPart, tagPart, unbrokenTag}
 use Rattle.mode.specs.Aes.{aes}
-use Rattle.mode.specs.Table.{Answer, refused, given, decide, firstRow}
+use Rattle.mode.specs.Table.{Answer, refused, decide, firstRow}
 use Rattle.mode.specs.Calls.{Outcome, outcomeBy, unpadFrom, unpadded, notPadded, orEmpty, plaintextOf, openRows, openSealed, writtenOf, number}
 use Rattle.mode.proofs.Blocks.{length-padded}
 use Rattle.mode.proofs.Bytes.{unpad-sound, unpad-complete}

@@ -1,11 +1,11 @@
 -- Outputs that are written part by part, as lists.
 use mathlib.Core.Path.{_≡_, refl, sym, ap, ap₂, _∙_}
-use mathlib.Core.List.{List, [], _∷_, _++_, append-assoc, append-nil}
-use Prim.Native.Nat.{ℕ, zero, suc, _+_, _-_, _*_, _/_, _%_, _≤_}
+use mathlib.Core.List.{List, [], _∷_, _++_, append-nil}
+use Prim.Native.Nat.{ℕ, zero, _+_, _-_, _*_, _/_, _%_, _≤_}
 use native.Mathlib.Nat.{le-of-eq}
 use native.Mathlib.Omega.{arith}
-use lib.ListN.{length, take, drop, length-append, length-drop, length-take}
-use lib.Seq.{take-at, drop-at, drop-append-add, take-all, length-take-le}
+use lib.ListN.{length, take, drop, length-drop}
+use lib.Seq.{take-at, drop-at, drop-append-add, take-all}
 use Rattle.blocks.specs.Bytes.{zeros}
 use Rattle.calls.specs.Layout.{Fresh}
 use Rattle.calls.proofs.LaidOut.{drop-zeros, length-zeros}

@@ -1,20 +1,19 @@
 -- Refused by the first row that holds, or jumped.
 use borrow.Author.Needs.{needs}
 use borrow.Author.Tests.{ltb-false}
-use mathlib.Core.Path.{_≡_, refl, sym, ap, ap₂, _∙_}
-use mathlib.Core.List.{List, [], _∷_, _++_}
-use Prim.Native.Nat.{ℕ, _+_, _-_, _*_, _/_, _%_, _≤_, _<_}
+use mathlib.Core.Path.{_≡_, sym, ap, _∙_}
+use mathlib.Core.List.{List, _++_}
+use Prim.Native.Nat.{ℕ, _+_, _-_, _≤_}
 use native.Mathlib.Omega.{arith}
 use lib.ListN.{length}
 use Rattle.blocks.specs.Bytes.{zeros}
 use Rattle.blocks.specs.Gf128.{jump}
 use Rattle.blocks.proofs.TimesX.{length-jump}
-use Rattle.mode.specs.Table.{firstRow, not16, limit}
+use Rattle.mode.specs.Table.{firstRow}
 use Rattle.mode.specs.Calls.{jumpRows, jumpMask}
 use Rattle.calls.proofs.Answers.{refuses, gives, refused-written, refused-output, given-written, given-output}
 use Rattle.calls.proofs.Passed.{head-passed, tail-passed, has-16}
 use Rattle.calls.proofs.Outputs.{whole-16, stored-front}
-use borrow.Author.Needs.{needs}
 use Rattle.calls.proofs.mask.jump.Statement.{statement}
 use Rattle.calls.proofs.mask.jump.Tie as tie
 

@@ -1,12 +1,10 @@
 -- From the end: what has been passed is zeros, at most 16 of them.
-use mathlib.Core.Path.{_≡_, refl, sym, ap, ap₂, _∙_}
-use mathlib.Core.List.{List, [], _∷_, _++_}
-use Prim.Native.Nat.{ℕ, _+_, _-_, _*_, _/_, _%_, _≤_, _<_}
+use mathlib.Core.Path.{_≡_, refl}
+use Prim.Native.Nat.{_+_, _-_, _≤_, _<_}
 use native.Mathlib.Omega.{arith}
 use lib.ListN.{length}
-use lib.ListN.{drop, getD}
+use lib.ListN.{drop}
 use Rattle.blocks.specs.Bytes.{zeros}
-use Rattle.calls.specs.Work.{messageEnd}
 use Rattle.calls.proofs.Opening.{other-byte, all-zero, behind, one-more, nothing-behind, ends-there, ends-nowhere}
 use Rattle.calls.proofs.open.message_end.Statement.{statement}
 use Rattle.calls.proofs.open.message_end.Tie as tie

@@ -1,11 +1,8 @@
 -- Refused by the first row that holds, or opened.
 use borrow.Author.Needs.{needs}
-use mathlib.Core.Path.{_≡_, refl, sym, ap, ap₂, _∙_}
-use mathlib.Core.List.{List, [], _∷_, _++_}
-use Prim.Native.Nat.{ℕ, _+_, _-_, _*_, _/_, _%_, _≤_, _<_}
-use native.Mathlib.Omega.{arith}
+use mathlib.Core.Path.{sym, ap, _∙_}
+use Prim.Native.Nat.{ℕ, _-_}
 use lib.ListN.{length}
-use Rattle.blocks.specs.Bytes.{zeros}
 use Rattle.mode.specs.Aes.{aes}
 use Rattle.mode.specs.Table.{firstRow}
 use Rattle.mode.specs.Calls.{openSealed, writtenOf}
@@ -13,7 +10,6 @@ use Rattle.calls.specs.Work.{openFirstRows}
 use Rattle.calls.proofs.Answers.{refused-written, refused-output}
 use Rattle.calls.proofs.Opening.{lengths-refused}
 use Rattle.calls.proofs.Outputs.{fresh}
-use borrow.Author.Needs.{needs}
 use Rattle.calls.proofs.open.open.Statement.{statement}
 use Rattle.calls.proofs.open.open.Tie as tie
 

@@ -1,23 +1,20 @@
 -- The tag decides row 6, the padding row 7.
 use borrow.Author.Needs.{needs}
 use borrow.Author.Tests.{not-true, not-false}
-use mathlib.Core.Path.{_≡_, refl, sym, ap, ap₂, _∙_}
-use mathlib.Core.List.{List, [], _∷_, _++_}
-use mathlib.Core.Bool.{Bool, true, false}
-use Prim.Native.Nat.{ℕ, _+_, _-_, _*_, _/_, _%_, _≤_, _<_}
+use mathlib.Core.Path.{_≡_, sym, ap, ap₂, _∙_}
+use mathlib.Core.List.{List}
+use Prim.Native.Nat.{ℕ, _-_, _≤_}
 use native.Mathlib.Omega.{arith}
 use lib.ListN.{length}
-use lib.ListN.{take, drop}
+use lib.ListN.{take}
 use lib.Seq.{take-at}
 use Rattle.blocks.specs.Bytes.{zeros, same}
-use Rattle.mode.specs.declared.Written.{Written}
 use Rattle.mode.specs.Mode.{ciphertext, blocksOf, unbrokenTag, ivPart, cipherPart, tagPart}
 use Rattle.mode.specs.Aes.{aes}
 use Rattle.mode.specs.Calls.{Outcome, openSealed, plaintextOf, writtenOf}
 use Rattle.calls.specs.Work.{released}
 use Rattle.calls.proofs.Answers.{refused-written, refused-output}
 use Rattle.calls.proofs.Opening.{lengths-passed, tag-block, tag-differs, tag-right}
-use borrow.Author.Needs.{needs}
 use Rattle.calls.proofs.open.open_into.Statement.{statement}
 use Rattle.calls.proofs.open.open_into.Tie as tie
 

@@ -1,7 +1,7 @@
 -- Row by row.
 use borrow.Author.Tests.{le-ltb, lt-ltb}
-use mathlib.Core.Path.{_≡_, sym, ap, ap₂, _∙_}
-use Prim.Native.Nat.{ℕ, _+_, _-_, _*_, _/_, _%_, _≤_, _<_}
+use mathlib.Core.Path.{sym, _∙_}
+use Prim.Native.Nat.{_-_}
 use native.Mathlib.Omega.{arith}
 use lib.ListN.{length}
 use Rattle.mode.specs.Mode.{cipherPart}
@@ -9,7 +9,6 @@ use Rattle.mode.proofs.Runs.{is16}
 use Rattle.mode.proofs.Rows.{row-holds, row-passes, no-row, isnt16, sealed-short, sealed-long, sealed-misaligned}
 use Rattle.mode.proofs.Demand2.{lengths-sealed}
 use Rattle.mode.proofs.Demand3.{cipher-length}
-use borrow.Author.Needs.{needs}
 use Rattle.calls.proofs.open.open_refusal.Statement.{statement}
 use Rattle.calls.proofs.open.open_refusal.Tie as tie
 

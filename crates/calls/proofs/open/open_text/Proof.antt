@@ -1,24 +1,22 @@
 -- The ciphertext stands in front of zeros, and is opened in place.
 use borrow.Author.Needs.{needs}
-use mathlib.Core.Path.{_≡_, refl, sym, ap, ap₂, _∙_}
-use mathlib.Core.List.{List, [], _∷_, _++_}
-use mathlib.Core.Bool.{false}
-use Prim.Native.Nat.{ℕ, _+_, _-_, _*_, _/_, _%_, _≤_, _<_}
+use mathlib.Core.Path.{_≡_, sym, ap, ap₂, _∙_}
+use mathlib.Core.List.{_++_}
+use Prim.Native.Nat.{ℕ, _+_, _-_, _%_, _≤_}
 use native.Mathlib.Omega.{arith}
 use lib.ListN.{length}
 use lib.ListN.{take, drop}
 use lib.Seq.{length-take-le}
 use Rattle.blocks.specs.Bytes.{zeros}
-use Rattle.mode.specs.Mode.{Pass, ciphertext, zeroBlock, blocksOf, pass, startMask, unbroken, tagFrom, unbrokenTag, ivPart, cipherPart}
+use Rattle.mode.specs.Mode.{Pass, ciphertext, blocksOf, startMask, unbroken, tagFrom, unbrokenTag, ivPart, cipherPart}
 use Rattle.mode.specs.Aes.{aes}
-use Rattle.mode.specs.Calls.{decrypted, plaintextOf}
+use Rattle.mode.specs.Calls.{plaintextOf}
 use Rattle.mode.proofs.Demand3.{cipher-length}
 use Rattle.aes.proofs.Lookup.{sbox-table, invSbox-table}
 use Rattle.runs.specs.Run.{keyOf, opening}
 use Rattle.calls.specs.Layout.{laidOut, laidOutLength}
 use Rattle.calls.proofs.Keys.{schedule, same-key}
 use Rattle.calls.proofs.Outputs.{front-is, worked, worked-long}
-use borrow.Author.Needs.{needs}
 use Rattle.calls.proofs.open.open_text.Statement.{statement}
 use Rattle.calls.proofs.open.open_text.Tie as tie
 

@@ -1,17 +1,15 @@
 -- Nothing is let out where no message ends in the text; else what stands before its end.
 use borrow.Author.Needs.{needs}
-use mathlib.Core.Path.{_≡_, refl, sym, ap, ap₂, _∙_}
-use mathlib.Core.List.{List, [], _∷_, _++_}
-use Prim.Native.Nat.{ℕ, _+_, _-_, _*_, _/_, _%_, _≤_, _<_}
+use mathlib.Core.Path.{_≡_, sym, ap, ap₂, _∙_}
+use mathlib.Core.List.{List, _++_}
+use Prim.Native.Nat.{ℕ, _+_, _-_, _%_, _≤_}
 use native.Mathlib.Omega.{arith}
 use lib.ListN.{length}
-use lib.ListN.{take, drop, length-drop}
+use lib.ListN.{take, length-drop}
 use lib.Seq.{take-take, length-take-le}
 use Rattle.blocks.specs.Bytes.{zeros}
-use Rattle.calls.specs.Work.{messageEnd}
 use Rattle.calls.proofs.Opening.{end-within, nothing-released, message-released}
 use Rattle.calls.proofs.Outputs.{back-is, back-put}
-use borrow.Author.Needs.{needs}
 use Rattle.calls.proofs.open.release.Statement.{statement}
 use Rattle.calls.proofs.open.release.Tie as tie
 

@@ -1,10 +1,7 @@
 -- The whole of a slice of 16 bytes is its block.
 use borrow.Author.Needs.{needs}
 use mathlib.Core.Path.{_≡_, ap, ap₂, _∙_}
-use mathlib.Core.List.{List}
-use Prim.Native.Nat.{ℕ, _≤_}
 use native.Mathlib.Omega.{arith}
-use lib.ListN.{length, take}
 use lib.Seq.{take-all}
 use Rattle.fips197.specs.KeyExpansion.{keyExpansion}
 use Rattle.mode.specs.Mode.{startMask}
@@ -12,8 +9,6 @@ use Rattle.mode.specs.Aes.{aes}
 use Rattle.aes.proofs.Lookup.{sbox-table}
 use Rattle.runs.specs.Run.{keyOf, Expanded}
 use Rattle.runs.proofs.Halves.{expanded, key-front}
-use Rattle.calls.specs.Work.{Prepares}
-use borrow.Author.Needs.{needs}
 use Rattle.calls.proofs.prepare.prepare.Statement.{statement}
 use Rattle.calls.proofs.prepare.prepare.Tie as tie
 

@@ -1,15 +1,12 @@
 -- Refused by the first row that holds, or closed.
 use borrow.Author.Needs.{needs}
-use mathlib.Core.Path.{_≡_, sym, ap, _∙_}
+use mathlib.Core.Path.{sym, ap, _∙_}
 use mathlib.Core.List.{List}
 use Prim.Native.Nat.{ℕ}
-use native.Mathlib.Omega.{arith}
 use Rattle.mode.specs.Aes.{aes}
-use Rattle.mode.specs.declared.TagAnswer.{TagAnswer}
 use Rattle.mode.specs.Calls.{closeRows, closingTag, close as closeOf}
 use Rattle.calls.proofs.Answers.{refuses, gives, refused-tag, given-tag}
 use Rattle.calls.proofs.Passed.{key-16, iv-16}
-use borrow.Author.Needs.{needs}
 use Rattle.calls.proofs.record.close.Statement.{statement}
 use Rattle.calls.proofs.record.close.Tie as tie
 

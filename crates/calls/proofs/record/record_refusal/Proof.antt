@@ -1,13 +1,10 @@
 -- Row by row.
 use borrow.Author.Needs.{needs}
-use mathlib.Core.Path.{_≡_, sym, ap, _∙_}
-use Prim.Native.Nat.{ℕ, _+_, _-_, _*_, _/_, _%_, _≤_, _<_}
+use mathlib.Core.Path.{sym, _∙_}
+use Prim.Native.Nat.{_-_}
 use native.Mathlib.Omega.{arith}
-use lib.ListN.{length}
-use Rattle.mode.specs.Table.{limit}
 use Rattle.mode.proofs.Runs.{within}
 use Rattle.mode.proofs.Rows.{row-holds, row-passes, no-row, is-beyond, not-at-start, has-no-block, is-whole}
-use borrow.Author.Needs.{needs}
 use Rattle.calls.proofs.record.record_refusal.Statement.{statement}
 use Rattle.calls.proofs.record.record_refusal.Tie as tie
 

@@ -1,21 +1,18 @@
 -- Refused by the first row that holds, or tested.
 use borrow.Author.Needs.{needs}
 use mathlib.Core.Path.{_≡_, sym, ap, ap₂, _∙_}
-use mathlib.Core.Bool.{Bool, cond, not}
-use mathlib.Core.List.{List, [], _∷_, _++_}
-use Prim.Native.Nat.{ℕ, _+_, _-_, _*_, _/_, _%_, _≤_, _<_}
+use mathlib.Core.Bool.{Bool, cond}
+use Prim.Native.Nat.{_-_}
 use native.Mathlib.Omega.{arith}
 use lib.ListN.{length}
-use lib.Dec.{T}
 use Rattle.blocks.specs.Bytes.{same}
 use Rattle.mode.specs.Aes.{aes}
 use Rattle.mode.specs.Calls.{closingTag, test as testOf, number}
-use Rattle.mode.specs.Table.{firstRow, decide}
+use Rattle.mode.specs.Table.{firstRow}
 use Rattle.calls.specs.Work.{testFirstRows}
 use Rattle.calls.proofs.Answers.{test-answer, test-refused}
 use Rattle.calls.proofs.Passed.{key-16, iv-16, tag-16}
 use Rattle.calls.proofs.Outputs.{whole-16}
-use borrow.Author.Needs.{needs}
 use Rattle.calls.proofs.record.test.Statement.{statement}
 use Rattle.calls.proofs.record.test.Tie as tie
 

@@ -1,9 +1,8 @@
 -- Row by row.
 use borrow.Author.Needs.{needs}
-use mathlib.Core.Path.{_≡_, sym, ap, _∙_}
+use mathlib.Core.Path.{sym, _∙_}
 use Rattle.mode.proofs.Runs.{is16}
 use Rattle.mode.proofs.Rows.{row-holds, row-passes, isnt16}
-use borrow.Author.Needs.{needs}
 use Rattle.calls.proofs.record.test_refusal.Statement.{statement}
 use Rattle.calls.proofs.record.test_refusal.Tie as tie
 

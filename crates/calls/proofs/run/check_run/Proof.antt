@@ -1,20 +1,17 @@
 -- Refused by the first row that holds, or checked.
 use borrow.Author.Needs.{needs}
-use mathlib.Core.Path.{_≡_, sym, ap, _∙_}
-use mathlib.Core.List.{List, [], _∷_, _++_}
-use Prim.Native.Nat.{ℕ, _+_, _-_, _*_, _/_, _%_, _≤_, _<_}
+use mathlib.Core.Path.{sym, ap, _∙_}
+use Prim.Native.Nat.{_+_, _-_, _≤_}
 use native.Mathlib.Omega.{arith}
 use lib.ListN.{length}
 use Rattle.mode.specs.Aes.{aes}
 use Rattle.mode.specs.declared.RunRecord.{RunRecord}
-use Rattle.mode.specs.declared.RecordAnswer.{RecordAnswer}
 use Rattle.mode.specs.Mode.{ciphertext, blocksOf}
 use Rattle.mode.specs.Table.{limit}
 use Rattle.mode.specs.Calls.{checkRunRows, runRecord, checkRun}
 use Rattle.mode.proofs.Blocks.{count-middle}
 use Rattle.calls.proofs.Answers.{refuses, gives, refused-record, given-record}
 use Rattle.calls.proofs.Passed.{key-16, iv-16, run-within}
-use borrow.Author.Needs.{needs}
 use Rattle.calls.proofs.run.check_run.Statement.{statement}
 use Rattle.calls.proofs.run.check_run.Tie as tie
 

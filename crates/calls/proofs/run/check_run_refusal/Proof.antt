@@ -1,7 +1,7 @@
 -- Row by row.
 use borrow.Author.Needs.{needs}
-use mathlib.Core.Path.{_≡_, sym, ap, _∙_}
-use Prim.Native.Nat.{ℕ, _+_, _-_, _*_, _/_, _%_, _≤_, _<_}
+use mathlib.Core.Path.{sym, _∙_}
+use Prim.Native.Nat.{_+_, _-_, _≤_, _<_}
 use native.Mathlib.Omega.{arith}
 use lib.ListN.{length}
 use Rattle.mode.specs.Table.{limit}
@@ -9,7 +9,6 @@ use Rattle.mode.specs.Mode.{blocksOf}
 use Rattle.mode.proofs.Blocks.{count-middle, aligned}
 use Rattle.mode.proofs.Runs.{is16, within}
 use Rattle.mode.proofs.Rows.{row-holds, row-passes, no-row, isnt16, misaligned, is-beyond}
-use borrow.Author.Needs.{needs}
 use Rattle.calls.proofs.run.check_run_refusal.Statement.{statement}
 use Rattle.calls.proofs.run.check_run_refusal.Tie as tie
 

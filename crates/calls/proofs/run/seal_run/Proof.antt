@@ -1,12 +1,11 @@
 -- Refused by the first row that holds, or sealed.
 use borrow.Author.Needs.{needs}
-use mathlib.Core.Path.{_≡_, sym, ap, ap₂, _∙_}
-use mathlib.Core.List.{List, [], _∷_, _++_}
-use Prim.Native.Nat.{ℕ, _+_, _-_, _*_, _/_, _%_, _≤_, _<_}
+use mathlib.Core.Path.{_≡_, sym, ap, _∙_}
+use mathlib.Core.List.{_++_}
+use Prim.Native.Nat.{ℕ, _+_, _-_}
 use native.Mathlib.Omega.{arith}
 use lib.ListN.{length}
 use Rattle.blocks.specs.Bytes.{zeros}
-use Rattle.mode.specs.declared.RunRecord.{RunRecord}
 use Rattle.mode.specs.Mode.{plaintext}
 use Rattle.mode.specs.Aes.{aes}
 use Rattle.mode.specs.Table.{firstRow}
@@ -16,7 +15,6 @@ use Rattle.calls.proofs.LaidOut.{run-output-long}
 use Rattle.calls.proofs.Answers.{refuses, gives, refused-run, given-run, refused-output, given-output}
 use Rattle.calls.proofs.Passed.{key-16, iv-16, run-fits}
 use Rattle.calls.proofs.Outputs.{fresh}
-use borrow.Author.Needs.{needs}
 use Rattle.calls.proofs.run.seal_run.Statement.{statement}
 use Rattle.calls.proofs.run.seal_run.Tie as tie
 

@@ -1,13 +1,12 @@
 -- The run's record and ciphertext, from its text sealed.
 use borrow.Author.Needs.{needs}
-use mathlib.Core.Path.{_≡_, sym, ap, ap₂, _∙_}
-use mathlib.Core.List.{List, [], _∷_, _++_}
-use Prim.Native.Nat.{ℕ, _+_, _-_, _*_, _/_, _%_, _≤_, _<_}
+use mathlib.Core.Path.{_≡_, sym, ap, _∙_}
+use mathlib.Core.List.{_++_}
+use Prim.Native.Nat.{ℕ, _+_, _-_, _/_}
 use native.Mathlib.Omega.{arith}
 use lib.ListN.{length}
 use Rattle.blocks.specs.Bytes.{zeros}
 use Rattle.blocks.specs.Gf128.{jump}
-use Rattle.mode.specs.declared.RunRecord.{RunRecord}
 use Rattle.mode.specs.Mode.{Pass, plaintext, zeroBlock, blocksOf, pass}
 use Rattle.mode.specs.Aes.{aes}
 use Rattle.mode.specs.Calls.{blocksOfRun, passFrom, runRecord}
@@ -16,7 +15,6 @@ use Rattle.runs.specs.Run.{keyOf}
 use Rattle.calls.specs.Layout.{kindOf, laidOut, laidOutLength}
 use Rattle.calls.proofs.LaidOut.{blocks-laidOut, count-laidOut}
 use Rattle.calls.proofs.Keys.{schedule, same-key}
-use borrow.Author.Needs.{needs}
 use Rattle.calls.proofs.run.seal_run_into.Statement.{statement}
 use Rattle.calls.proofs.run.seal_run_into.Tie as tie
 

@@ -11,7 +11,6 @@ use Rattle.mode.proofs.Runs.{is16, within}
 use Rattle.mode.proofs.Rows.{row-holds, row-passes, no-row, isnt16, is-beyond}
 use Rattle.calls.specs.Layout.{kindOf, laidOutLength}
 use Rattle.calls.proofs.LaidOut.{count-laidOut, aligned-run, misaligned-run}
-use borrow.Author.Needs.{needs}
 use Rattle.calls.proofs.run.seal_run_refusal.Statement.{statement}
 use Rattle.calls.proofs.run.seal_run_refusal.Tie as tie
 

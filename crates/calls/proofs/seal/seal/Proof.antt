@@ -1,8 +1,8 @@
 -- Refused by the first row that holds, or sealed.
 use borrow.Author.Needs.{needs}
-use mathlib.Core.Path.{_≡_, sym, ap, ap₂, _∙_}
-use mathlib.Core.List.{List, [], _∷_, _++_}
-use Prim.Native.Nat.{ℕ, _+_, _-_, _*_, _/_, _%_, _≤_, _<_}
+use mathlib.Core.Path.{_≡_, sym, ap, _∙_}
+use mathlib.Core.List.{_++_}
+use Prim.Native.Nat.{ℕ, _+_, _-_, _*_, _/_}
 use native.Mathlib.Omega.{arith}
 use lib.ListN.{length}
 use Rattle.blocks.specs.Bytes.{zeros}
@@ -15,7 +15,6 @@ use Rattle.mode.proofs.SealedLength.{sealed-length}
 use Rattle.calls.proofs.Answers.{refuses, gives, refused-written, given-written, refused-output, given-output}
 use Rattle.calls.proofs.Passed.{key-16, iv-16, sealed-fits}
 use Rattle.calls.proofs.Outputs.{fresh}
-use borrow.Author.Needs.{needs}
 use Rattle.calls.proofs.seal.seal.Statement.{statement}
 use Rattle.calls.proofs.seal.seal.Tie as tie
 

@@ -2,8 +2,8 @@
 use borrow.Author.Needs.{needs}
 use mathlib.Core.Path.{_≡_, sym, ap, ap₂, _∙_}
 use mathlib.Core.Bool.{true}
-use mathlib.Core.List.{List, [], _∷_, _++_, append-assoc}
-use Prim.Native.Nat.{ℕ, _+_, _-_, _*_, _/_, _%_, _≤_, _<_}
+use mathlib.Core.List.{List, _++_, append-assoc}
+use Prim.Native.Nat.{ℕ, _+_, _-_, _*_, _/_, _%_}
 use native.Mathlib.Omega.{arith}
 use lib.ListN.{length}
 use lib.ListN.{take, drop, length-append}
@@ -20,7 +20,6 @@ use Rattle.calls.specs.Layout.{laidOut, laidOutLength}
 use Rattle.calls.proofs.LaidOut.{length-zeros}
 use Rattle.calls.proofs.Keys.{schedule, same-key}
 use Rattle.calls.proofs.Outputs.{fresh, whole-16, stored-front, stored-after, back-is, back-put}
-use borrow.Author.Needs.{needs}
 use Rattle.calls.proofs.seal.seal_into.Statement.{statement}
 use Rattle.calls.proofs.seal.seal_into.Tie as tie
 

@@ -1,8 +1,8 @@
 -- Row by row.
 use borrow.Author.Needs.{needs}
 use borrow.Author.Tests.{le-ltb, lt-ltb}
-use mathlib.Core.Path.{_≡_, sym, ap, _∙_}
-use Prim.Native.Nat.{ℕ, _+_, _-_, _*_, _/_, _%_, _≤_, _<_}
+use mathlib.Core.Path.{sym, _∙_}
+use Prim.Native.Nat.{_-_, _≤_, _<_}
 use native.Mathlib.Omega.{arith}
 use lib.ListN.{length}
 use Rattle.mode.specs.Mode.{sealedRecord}
@@ -11,7 +11,6 @@ use Rattle.mode.proofs.Runs.{is16}
 use Rattle.mode.proofs.Rows.{row-holds, row-passes, no-row, isnt16, too-long, not-too-long}
 use Rattle.mode.proofs.Aes.{aes-lawful}
 use Rattle.mode.proofs.SealedLength.{sealed-length}
-use borrow.Author.Needs.{needs}
 use Rattle.calls.proofs.seal.seal_refusal.Statement.{statement}
 use Rattle.calls.proofs.seal.seal_refusal.Tie as tie
 

@@ -1,11 +1,9 @@
 -- By the two cases of the flag.
 use borrow.Author.Needs.{needs}
-use mathlib.Core.Path.{_≡_, sym, ap, _∙_}
+use mathlib.Core.Path.{sym, ap}
 use mathlib.Core.Bool.{Bool}
-use Prim.Native.Nat.{ℕ}
 use lib.ListN.{length}
 use Rattle.calls.specs.Layout.{laidOutLength}
-use borrow.Author.Needs.{needs}
 use Rattle.calls.proofs.text.laid_out_length.Statement.{statement}
 use Rattle.calls.proofs.text.laid_out_length.Tie as tie
 

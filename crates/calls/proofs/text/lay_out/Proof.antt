@@ -2,13 +2,11 @@
 use borrow.Author.Needs.{needs}
 use mathlib.Core.Path.{_≡_, refl, subst}
 use mathlib.Core.Bool.{Bool, true}
-use mathlib.Core.List.{List, _++_}
-use Prim.Native.Nat.{ℕ, _+_, _-_, _*_, _/_, _%_, _≤_, _<_}
+use Prim.Native.Nat.{_-_, _≤_, _<_}
 use native.Mathlib.Omega.{arith}
 use lib.ListN.{length}
-use Rattle.calls.specs.Layout.{laidOut, laidOutLength}
+use Rattle.calls.specs.Layout.{laidOutLength}
 use Rattle.calls.proofs.LaidOut.{laid-least, laid-last, laid-middle}
-use borrow.Author.Needs.{needs}
 use Rattle.calls.proofs.text.lay_out.Statement.{statement}
 use Rattle.calls.proofs.text.lay_out.Tie as tie
 

@@ -1,12 +1,11 @@
 -- The loop has copied the first i bytes.
 use borrow.Author.Needs.{needs}
-use mathlib.Core.Path.{_≡_, refl, sym, ap, ap₂, _∙_}
+use mathlib.Core.Path.{_≡_, refl, ap, ap₂, _∙_}
 use mathlib.Core.List.{List, _++_}
 use Prim.Native.Nat.{ℕ, _≤_, _<_, _-_}
 use native.Mathlib.Omega.{arith}
 use lib.ListN.{length, drop, length-set}
 use lib.Seq.{take-length}
-use Rattle.blocks.specs.Bytes.{zeros}
 use Rattle.blocks.proofs.Tab.{built, built-none, built-more}
 use Rattle.calls.proofs.LaidOut.{drop-zeros}
 use Rattle.calls.proofs.text.put.Statement.{statement}

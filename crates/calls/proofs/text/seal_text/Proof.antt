@@ -1,12 +1,12 @@
 -- The text stands in front of zeros, and is sealed in place.
 use borrow.Author.Needs.{needs}
 use borrow.Table.Elements.{length-take-le}
-use mathlib.Core.Path.{_≡_, sym, ap, ap₂, _∙_}
-use mathlib.Core.List.{List, [], _∷_, _++_}
-use Prim.Native.Nat.{ℕ, _+_, _-_, _*_, _/_, _%_, _≤_, _<_}
+use mathlib.Core.Path.{_≡_, sym, ap, _∙_}
+use mathlib.Core.List.{List, _++_}
+use Prim.Native.Nat.{ℕ, _+_, _-_, _≤_}
 use native.Mathlib.Omega.{arith}
 use lib.ListN.{length}
-use lib.ListN.{take, drop}
+use lib.ListN.{take}
 use Rattle.blocks.specs.Bytes.{zeros}
 use Rattle.mode.specs.Mode.{Pass, plaintext, zeroBlock, blocksOf, pass}
 use Rattle.mode.specs.Aes.{aes}
@@ -14,7 +14,6 @@ use Rattle.runs.specs.Run.{keyOf}
 use Rattle.calls.specs.Layout.{laidOut, laidOutLength}
 use Rattle.calls.proofs.LaidOut.{length-laidOut}
 use Rattle.calls.proofs.Outputs.{front-is, worked}
-use borrow.Author.Needs.{needs}
 use Rattle.calls.proofs.text.seal_text.Statement.{statement}
 use Rattle.calls.proofs.text.seal_text.Tie as tie
 
