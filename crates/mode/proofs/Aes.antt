@@ -1,6 +1,4 @@
 -- AES-128 is a lawful cipher: so what is shown of any lawful cipher holds of AES-128.
-use mathlib.Core.List.{List}
-use Prim.Native.Nat.{ℕ}
 use Rattle.fips197.proofs.Aes128.{block-first, block-second, block-invFirst, block-invSecond, first-undone, first-redone, second-undone, second-redone}
 use Rattle.fips197.proofs.Lengths.{length-first, length-second, length-invFirst, length-invSecond}
 use Rattle.mode.specs.Mode.{Lawful}

@@ -1,22 +1,20 @@
 -- Bytes and blocks: bounds, parts, padding undone.
-use mathlib.Core.Path.{_≡_, refl, sym, ap, ap₂, subst, _∙_}
-use mathlib.Core.List.{List, [], _∷_, _++_, append-assoc, append-nil}
-use mathlib.Core.Option.{Option, some, none as no-message}
-use mathlib.Core.Bool.{Bool, true, false, cond, not}
-use Prim.Native.Nat.{ℕ, zero, suc, _+_, _*_, _-_, _/_, _%_, _≤_, _<_, suc-le-suc, zero-le}
-use native.Mathlib.Nat.{mod-lt}
+use mathlib.Core.Path.{_≡_, refl, sym, ap, ap₂, _∙_}
+use mathlib.Core.List.{List, [], _∷_, _++_, append-assoc}
+use mathlib.Core.Option.{some}
+use mathlib.Core.Bool.{Bool, true, false, cond}
+use Prim.Native.Nat.{ℕ, zero, suc, _+_, _*_, _-_, _/_, _%_, _≤_, _<_}
 use native.Mathlib.Omega.{arith}
-use lib.ListN.{length, take, drop, getD, replicate, length-append, length-drop, length-replicate, take-append-drop}
+use lib.ListN.{length, take, drop, getD, replicate, length-append, length-drop, take-append-drop}
 use lib.Seq.{length-take-le, take-all, take-at, drop-at, drop-drop, getD-append-seam, getD-append-add, take-append-seam}
-use lib.Bits.{bitXor, xor-lt}
 use lib.Dec.{lit<, ltb}
 use borrow.Author.Tests.{ltb-true, ltb-false}
 use Rattle.blocks.specs.Bytes.{Bytes, Block, firstBlocks, same, concat}
 use Rattle.blocks.proofs.Chunks.{bytes-append, bytes-take, bytes-drop}
 use Rattle.mode.specs.Mode.{blocksOf, padded, ivPart, cipherPart, tagPart}
-use Rattle.mode.specs.Calls.{unpadFrom, unpadded}
+use Rattle.mode.specs.Calls.{unpadFrom}
 use Rattle.mode.proofs.Laws.{AllLong}
-use Rattle.mode.proofs.Blocks.{blocksOf-append, long-blocks, length-padded}
+use Rattle.mode.proofs.Blocks.{blocksOf-append, length-padded}
 use Rattle.mode.proofs.Demand3.{same-true, same-self}
 
 -- ---- bounds

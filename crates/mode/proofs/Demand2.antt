@@ -1,25 +1,25 @@
 -- DEMAND 2, proved: (b) `demand2`, (c) `first-row`, (d) `checked-as-opened`; and the record that checking gives is the one that sealing gives.
 use mathlib.Core.Path.{_≡_, refl, sym, ap, ap₂, subst, _∙_}
 use mathlib.Core.Logic.{_⊎_, inl, inr, _↔_}
-use mathlib.Core.List.{List, [], _∷_, _++_, append-assoc, append-nil}
+use mathlib.Core.List.{List, [], _∷_, _++_}
 use mathlib.Core.Option.{Option, some, none as no-message}
 use mathlib.Core.Bool.{Bool, true, false, cond, not, _||_}
-use Prim.Native.Nat.{ℕ, zero, suc, _+_, _*_, _-_, _/_, _%_, _≤_, _<_}
+use Prim.Native.Nat.{ℕ, suc, _+_, _*_, _-_, _/_, _%_, _≤_}
 use native.Mathlib.Omega.{arith}
-use lib.ListN.{length, take, drop, getD, replicate, length-append, length-drop}
+use lib.ListN.{length, drop, replicate, length-append}
 use lib.Seq.{length-take-le}
 use lib.Dec.{eqb, ltb}
-use borrow.Author.Tests.{eqb-true, eq-eqb, ltb-true, ltb-false, le-ltb, lt-ltb, not-false, not-true}
+use borrow.Author.Tests.{eqb-true, eq-eqb, ltb-false, le-ltb, not-false}
 use Rattle.blocks.specs.Bytes.{xorBytes, Bytes, Block, same, concat}
 use Rattle.blocks.specs.Gf128.{timesX, jump}
-use Rattle.blocks.proofs.Chunks.{bytes-append, bytes-take, bytes-drop}
+use Rattle.blocks.proofs.Chunks.{bytes-take, bytes-drop}
 use Rattle.blocks.proofs.XorBytes.{bytes-xor, xorBytes-cancel}
-use Rattle.blocks.proofs.TimesX.{length-timesX, length-jump, block-timesX}
-use Rattle.mode.specs.Mode.{Cipher, Lawful, Source, plaintext, ciphertext, Pass, RunRecord, zeroBlock, encrypt, startMask, middletext, written, pass, unbroken, tagFrom, unbrokenTag, blocksOf, padded, ivPart, cipherPart, tagPart, sealedRecord, recordOf, UnbrokenCheck}
-use Rattle.mode.specs.Table.{Answer, refused, given, decide, not16, unaligned, notSealed, tableOrder, inOrder, longestMessage, longestSealed}
-use Rattle.mode.specs.Calls.{unpadded, notPadded, orEmpty, decrypted, plaintextOf, openRows, openSealed, sealRows, sealRunRows, checkRunRows, joinTwoRows, joinListRows, closeRows, testRows, jumpRows, Kind, Outcome, outcomeBy, seal}
+use Rattle.blocks.proofs.TimesX.{length-jump, block-timesX}
+use Rattle.mode.specs.Mode.{Cipher, Lawful, plaintext, ciphertext, RunRecord, zeroBlock, encrypt, startMask, middletext, written, pass, unbroken, tagFrom, unbrokenTag, blocksOf, padded, ivPart, cipherPart, tagPart, sealedRecord, UnbrokenCheck}
+use Rattle.mode.specs.Table.{Answer, refused, given, decide, unaligned, notSealed, tableOrder, inOrder, longestSealed}
+use Rattle.mode.specs.Calls.{unpadded, notPadded, orEmpty, decrypted, plaintextOf, openRows, openSealed, sealRows, sealRunRows, checkRunRows, joinTwoRows, joinListRows, closeRows, testRows, jumpRows, Kind, outcomeBy}
 use Rattle.mode.specs.Demands.{SealedFrom, Demand2, CheckedAsOpened}
-use Rattle.mode.proofs.Laws.{AllLong, xor-long, pass-mask, preauthenticator-long, start-long}
+use Rattle.mode.proofs.Laws.{xor-long, pass-mask, preauthenticator-long}
 use Rattle.mode.proofs.Blocks.{length-padded, count-middle}
 use Rattle.mode.proofs.Runs.{is16}
 use Rattle.mode.proofs.Segments.{not-both}

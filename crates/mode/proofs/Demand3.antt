@@ -2,25 +2,23 @@
 -- call that may stand is answered as document 01 says and leaves a rack of which it holds.
 use mathlib.Core.Path.{_≡_, refl, sym, ap, ap₂, subst, _∙_}
 use mathlib.Core.Logic.{_⊎_, inl, inr, _↔_}
-use mathlib.Core.List.{List, [], _∷_, _++_, map, append-assoc, append-nil}
+use mathlib.Core.List.{List, [], _∷_, _++_, map, append-nil}
 use mathlib.Core.Bool.{Bool, true, false, cond, not, _&&_}
 use Prim.Native.Nat.{ℕ, zero, suc, _+_, _*_, _-_, _/_, _%_, _≤_, _<_}
-use native.Mathlib.Nat.{zero-add, add-comm, suc-add}
 use native.Mathlib.Omega.{arith}
-use lib.ListN.{length, take, drop, getD, set, replicate, length-append, length-drop, take-append-drop}
+use lib.ListN.{length, take, drop, set, replicate, length-append, length-drop}
 use lib.Seq.{split-at, set-split, take-append-seam, length-take-le}
-use lib.Dec.{eqb, leb, ltb}
+use lib.Dec.{eqb, leb}
 use borrow.Author.Tests.{eq-eqb, ne-eqb, eqb-true}
 use Rattle.blocks.specs.Bytes.{same, concat}
-use Rattle.blocks.specs.Gf128.{jump}
-use Rattle.mode.specs.Mode.{Cipher, Lawful, Source, plaintext, ciphertext, Pass, RunRecord, pass, unbroken, unbrokenTag, tagFrom, recordOf, startMask, blocksOf, padded, zeroBlock, ivPart, cipherPart, tagPart, UnbrokenCheck}
-use Rattle.mode.specs.Table.{Answer, refused, given, decide, not16, beyond, anyBeyond, apart, none, notWhole, limit}
+use Rattle.mode.specs.Mode.{Cipher, Lawful, ciphertext, RunRecord, pass, unbroken, unbrokenTag, tagFrom, recordOf, startMask, blocksOf, padded, zeroBlock, cipherPart, tagPart, UnbrokenCheck}
+use Rattle.mode.specs.Table.{Answer, refused, given, decide, beyond, anyBeyond, apart, none, notWhole, limit}
 use Rattle.mode.specs.Calls.{Kind, middle, last, blocksOfRun, unalignedRun, Outcome, outcomeBy, joined, joinedOnto, joinedAll, joinTwo, joinList, closingTag, close, test, callsOf}
 use Rattle.mode.specs.Parallel.{Work, sealing, checking, sourceOf, ivOf, textOf, lastKind, allBlocks, Fits, Cut, Setting, WellFormed, Run, runsFrom, Segment, pending, recorded, blocksOfRuns, runsIn, recordIn, bytesIn, isRecorded, runsOf, bytesOf, blocksIn, noSegment, segment, Call, runAt, joinPair, joinMany, consecutive, AllRecorded, recordsAt, MayStand, mergeBy, recordBy, headOr, firstRun, empties, start, lent, outcomeOfRun, runOutcome, answerOf, after, afterAll, EachCall}
-use Rattle.mode.specs.Demands.{whole, wholeTag, recordOfSegments, ciphertextOfSegment, AsSaid, TestedAs, Whole, Agrees, Demand3}
+use Rattle.mode.specs.Demands.{whole, wholeTag, recordOfSegments, ciphertextOfSegment, AsSaid, TestedAs, Whole, Demand3}
 use Rattle.mode.proofs.Laws.{AllLong, all-left, all-right, mask-there}
 use Rattle.mode.proofs.Blocks.{blocksOf-append, long-blocks, padded-append, count-middle, count-last, aligned, run-long}
-use Rattle.mode.proofs.Runs.{is16, within, iv-long, Suits, GoodRun, mask0, outputOf, recordFor, part, unbroken-output, run-outcome}
+use Rattle.mode.proofs.Runs.{is16, within, iv-long, Suits, GoodRun, outputOf, recordFor, part, unbroken-output, run-outcome}
 use Rattle.mode.proofs.Segments.{blocksIn-cons, blocksIn-append, blocksIn-one, three, blocks-three, one-there, recorded-inside, Recs, window, SoundAt, Sound, sound-split, sound-join, sound-at, none-beyond, not-apart, joined-all, bytes-all}
 
 -- ---- all blocks of a setting

@@ -1,13 +1,10 @@
 -- The join of two records, row by row, as the code decides it.
-use mathlib.Core.Path.{_≡_, refl, sym, ap, _∙_}
-use mathlib.Core.Bool.{Bool, true, false, cond, not, _||_}
-use mathlib.Core.List.{List, [], _∷_}
-use Prim.Native.Nat.{ℕ, _+_, _≤_, _<_}
-use lib.Dec.{eqb, ltb}
+use mathlib.Core.Path.{_≡_, sym}
+use Prim.Native.Nat.{_+_, _≤_, _<_}
 use borrow.Author.Tests.{le-ltb, lt-ltb, eq-eqb, ne-eqb}
 use Rattle.mode.specs.Mode.{RunRecord}
 use Rattle.mode.specs.Table.{decide, limit, beyond, anyBeyond, apart}
-use Rattle.mode.specs.Calls.{RecordAnswer, joined, joinTwo, number, orElse, recordAnswerOf, refusedRecord}
+use Rattle.mode.specs.Calls.{joined, joinTwo, number, orElse, recordAnswerOf, refusedRecord}
 
 module _ (l r : RunRecord) where
   pub join-left-beyond : limit < l .first + l .count → refusedRecord 4 ≡ recordAnswerOf (joinTwo l r)

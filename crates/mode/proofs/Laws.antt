@@ -1,17 +1,16 @@
 -- Laws of step 2 over any blocks, and of records: the record of adjoining blocks is the join of their records.
 use mathlib.Core.Path.{_≡_, refl, sym, ap, ap₂, _∙_}
-use mathlib.Core.List.{List, [], _∷_, _++_, append-assoc, append-nil}
+use mathlib.Core.List.{List, [], _∷_, _++_, append-assoc}
 use mathlib.Core.Bool.{Bool, true, false, cond}
-use Prim.Native.Nat.{ℕ, zero, suc, _+_, _*_, _/_, _%_, _≤_, _<_}
-use native.Mathlib.Nat.{zero-add, add-comm, suc-add}
-use native.Mathlib.Omega.{arith}
-use lib.ListN.{length, replicate, length-append}
+use Prim.Native.Nat.{ℕ, zero, suc, _+_}
+use native.Mathlib.Nat.{add-comm}
+use lib.ListN.{length, length-append}
 use Rattle.blocks.specs.Bytes.{xorBytes}
 use Rattle.blocks.specs.Gf128.{timesX, jump, fallen, shiftLeft, reduction}
 use Rattle.blocks.proofs.XorBytes.{xorBytes-zeros, xorBytes-comm, xorBytes-assoc, length-xor}
 use Rattle.blocks.proofs.TimesX.{length-timesX, length-jump, jump-xor, jump-add}
 use Rattle.blocks.specs.Bytes.{same}
-use Rattle.mode.specs.Mode.{Cipher, Lawful, Source, plaintext, ciphertext, Pass, RunRecord, zeroBlock, encrypt, startMask, middletext, written, pass, unbroken, recordOf}
+use Rattle.mode.specs.Mode.{Cipher, Lawful, Source, plaintext, ciphertext, RunRecord, zeroBlock, encrypt, startMask, middletext, written, pass, unbroken, recordOf}
 use Rattle.mode.specs.Calls.{joined}
 
 pub same-record : (a b : RunRecord) → a .first ≡ b .first → a .count ≡ b .count → a .preauthenticator ≡ b .preauthenticator → a ≡ b

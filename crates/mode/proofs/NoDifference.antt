@@ -1,12 +1,12 @@
 -- From demand 3: what two ways of cutting, ordering and joining have in common, and what the call that seals a whole message has in common
 -- with them.
-use mathlib.Core.Path.{_≡_, sym, ap, _∙_}
+use mathlib.Core.Path.{_≡_, sym, _∙_}
 use mathlib.Core.List.{List, [], _∷_, _++_}
 use Prim.Native.Nat.{ℕ}
-use Rattle.mode.specs.Mode.{Cipher, Lawful, RunRecord, plaintext, blocksOf, padded, unbroken, unbrokenTag, sealedRecord}
-use Rattle.mode.specs.Table.{Answer, refused, given}
+use Rattle.mode.specs.Mode.{Cipher, Lawful, RunRecord, plaintext, blocksOf, padded, unbrokenTag, sealedRecord}
+use Rattle.mode.specs.Table.{given}
 use Rattle.mode.specs.Calls.{callsOf, close, blocksOfRun}
-use Rattle.mode.specs.Parallel.{Work, sealing, ivOf, sourceOf, textOf, lastKind, allBlocks, Setting, WellFormed, Run, Segment, recorded, Call, MayStand, start, afterAll, EachCall}
+use Rattle.mode.specs.Parallel.{Work, sealing, ivOf, sourceOf, textOf, lastKind, allBlocks, WellFormed, Run, recorded, Call, MayStand, start, afterAll, EachCall}
 use Rattle.mode.specs.Demands.{Whole, whole, wholeTag}
 use Rattle.mode.proofs.Demand3.{demand3}
 

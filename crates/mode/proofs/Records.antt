@@ -1,9 +1,9 @@
 -- Laws of records made in any way: grouping does not matter, a join stays within the limit, an empty right neighbour changes nothing;
 -- and checking a run's ciphertext gives the record that sealing it gave.
-use mathlib.Core.Path.{_≡_, refl, sym, ap, ap₂, subst, _∙_}
-use mathlib.Core.List.{List, [], _∷_, _++_}
-use mathlib.Core.Bool.{Bool, true, false, cond, not, _||_}
-use Prim.Native.Nat.{ℕ, zero, suc, _+_, _*_, _-_, _/_, _%_, _≤_, _<_}
+use mathlib.Core.Path.{_≡_, refl, sym, ap, subst, _∙_}
+use mathlib.Core.List.{List, [], _∷_}
+use mathlib.Core.Bool.{Bool, true, false, not}
+use Prim.Native.Nat.{ℕ, _+_, _*_, _-_, _%_, _≤_}
 use native.Mathlib.Nat.{add-assoc, add-comm, add-zero}
 use native.Mathlib.Omega.{arith}
 use lib.ListN.{length, take, replicate}
@@ -11,12 +11,12 @@ use lib.Seq.{take-append-seam}
 use lib.Dec.{eqb, ltb}
 use borrow.Author.Tests.{eqb-true, ltb-false, not-false}
 use Rattle.blocks.specs.Bytes.{xorBytes, Bytes, Block, concat}
-use Rattle.blocks.specs.Gf128.{timesX, jump}
+use Rattle.blocks.specs.Gf128.{jump}
 use Rattle.blocks.proofs.XorBytes.{xorBytes-assoc, xorBytes-zeros}
 use Rattle.blocks.proofs.TimesX.{jump-xor, jump-add, length-jump, block-jump}
-use Rattle.mode.specs.Mode.{Cipher, Lawful, Source, plaintext, ciphertext, Pass, RunRecord, zeroBlock, startMask, pass, blocksOf, padded}
+use Rattle.mode.specs.Mode.{Cipher, Lawful, plaintext, ciphertext, RunRecord, zeroBlock, startMask, blocksOf, padded}
 use Rattle.mode.specs.Table.{Answer, refused, given, decide, not16, unaligned, beyond, anyBeyond, apart, limit, none}
-use Rattle.mode.specs.Calls.{unalignedRun, joined, joinedOnto, joinedAll, joinList, Kind, middle, last, blocksOfRun, Outcome, outcomeBy, passFrom, runRecord, sealRun, checkRun}
+use Rattle.mode.specs.Calls.{unalignedRun, joined, joinedOnto, joinedAll, joinList, Kind, middle, last, blocksOfRun, outcomeBy, passFrom, runRecord, sealRun, checkRun}
 use Rattle.mode.proofs.Laws.{same-record}
 use Rattle.mode.proofs.Blocks.{length-padded, aligned}
 use Rattle.mode.proofs.Runs.{is16}

@@ -1,16 +1,16 @@
 -- Rows of the table, one after another: how a call comes to its refusal or to its answer.
-use mathlib.Core.Path.{_≡_, refl, sym, ap, _∙_}
-use mathlib.Core.Bool.{Bool, true, false, cond, not, _&&_, _||_}
+use mathlib.Core.Path.{_≡_, refl, sym, ap}
+use mathlib.Core.Bool.{Bool, true, false, cond, not, _&&_}
 use mathlib.Core.List.{List, [], _∷_, _++_}
 use Prim.Native.Nat.{ℕ, zero, suc, _+_, _-_, _%_, _≤_, _<_}
 use native.Mathlib.Omega.{arith}
-use lib.Dec.{T, eqb, ltb}
+use lib.Dec.{T, eqb}
 use lib.ListN.{length}
 use borrow.Author.Tests.{eq-eqb, ne-eqb, le-ltb, lt-ltb}
 use Rattle.blocks.specs.Bytes.{zeros}
 use Rattle.mode.specs.Mode.{RunRecord}
 use Rattle.mode.specs.Table.{Answer, refused, given, decide, firstRow, limit, longestMessage, longestSealed, not16, unaligned, tooLong, notSealed, beyond, notWhole}
-use Rattle.mode.specs.Calls.{Outcome, outcomeBy}
+use Rattle.mode.specs.Calls.{outcomeBy}
 
 -- ---- the first row
 

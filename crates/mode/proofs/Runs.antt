@@ -1,22 +1,22 @@
 -- One run: where it stands in the unbroken pass, what it writes and what its call comes to.
-use mathlib.Core.Path.{_≡_, refl, sym, ap, ap₂, subst, _∙_}
-use mathlib.Core.List.{List, [], _∷_, _++_, append-assoc, append-nil}
+use mathlib.Core.Path.{_≡_, refl, sym, ap, ap₂, _∙_}
+use mathlib.Core.List.{List, [], _∷_, _++_}
 use mathlib.Core.Bool.{Bool, true, false, cond, not}
-use Prim.Native.Nat.{ℕ, zero, suc, _+_, _*_, _-_, _/_, _%_, _≤_, _<_}
-use native.Mathlib.Nat.{zero-add, add-comm, suc-add}
+use Prim.Native.Nat.{ℕ, _+_, _*_, _≤_}
+use native.Mathlib.Nat.{add-comm}
 use native.Mathlib.Omega.{arith}
-use lib.ListN.{length, take, drop, replicate, length-append, length-drop, length-replicate, length-take}
-use lib.Seq.{length-take-le, take-append-le, drop-append-le, take-at, drop-at, take-nil, drop-nil}
-use lib.Dec.{eqb, leb, ltb}
-use borrow.Author.Tests.{eqb-true, eq-eqb, not-false, leb-true, leb-false, le-ltb, lt-ltb}
+use lib.ListN.{length, take, drop, length-append}
+use lib.Seq.{length-take-le, take-at, drop-at, take-nil, drop-nil}
+use lib.Dec.{leb, ltb}
+use borrow.Author.Tests.{eq-eqb, leb-true, leb-false, le-ltb, lt-ltb}
 use Rattle.blocks.specs.Bytes.{xorBytes}
 use Rattle.blocks.specs.Gf128.{timesX, jump}
 use Rattle.blocks.proofs.TimesX.{length-timesX, length-jump, jump-add}
-use Rattle.mode.specs.Mode.{Cipher, Lawful, Source, plaintext, ciphertext, Pass, RunRecord, zeroBlock, startMask, middletext, written, pass, unbroken, recordOf, blocksOf, ivPart}
-use Rattle.mode.specs.Table.{Answer, refused, given, decide, not16, unaligned, beyond, limit}
-use Rattle.mode.specs.Calls.{unalignedRun, Kind, middle, last, blocksOfRun, Outcome, outcomeBy, passFrom, runRecord, sealRun, checkRun, callsOf}
+use Rattle.mode.specs.Mode.{Cipher, Lawful, Source, plaintext, ciphertext, RunRecord, zeroBlock, startMask, middletext, written, pass, unbroken, recordOf, blocksOf, ivPart}
+use Rattle.mode.specs.Table.{Answer, refused, given, decide, not16, beyond, limit}
+use Rattle.mode.specs.Calls.{unalignedRun, Kind, middle, last, blocksOfRun, outcomeBy, passFrom, runRecord, sealRun, checkRun, callsOf}
 use Rattle.mode.specs.Parallel.{Work, sealing, checking, sourceOf, ivOf, Fits, Run, lent, outcomeOfRun}
-use Rattle.mode.proofs.Laws.{AllLong, all-left, all-right, same-record, pass-mask, output-append, output-free, start-long, mask-there, middle-long, xor-long}
+use Rattle.mode.proofs.Laws.{AllLong, all-left, all-right, same-record, output-append, start-long, mask-there, middle-long, xor-long}
 use Rattle.mode.proofs.Blocks.{run-long}
 
 pub is16 : (a : List ℕ) → length a ≡ 16 → not16 a ≡ false

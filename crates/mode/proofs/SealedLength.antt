@@ -1,11 +1,10 @@
 -- Lengths of tags, ciphertexts and sealed records.
-use mathlib.Core.Path.{_≡_, refl, sym, ap, ap₂, _∙_}
+use mathlib.Core.Path.{_≡_, refl, ap, ap₂, _∙_}
 use mathlib.Core.List.{List, _++_}
 use Prim.Native.Nat.{ℕ, _+_, _*_, _/_, _%_}
 use native.Mathlib.Omega.{arith}
 use lib.ListN.{length, length-append}
 use Rattle.blocks.specs.Bytes.{xorBytes}
-use Rattle.blocks.specs.Gf128.{jump}
 use Rattle.blocks.proofs.TimesX.{length-jump}
 use Rattle.mode.specs.Mode.{Cipher, Lawful, plaintext, zeroBlock, encrypt, startMask, pass, unbroken, tagFrom, unbrokenTag, blocksOf, padded, sealedRecord}
 use Rattle.mode.proofs.Laws.{AllLong, xor-long, pass-mask, preauthenticator-long, start-long}

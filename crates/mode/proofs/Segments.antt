@@ -1,19 +1,19 @@
 -- What holds of the segments at every moment, and how their records join.
 use mathlib.Core.Path.{_≡_, refl, sym, ap, ap₂, subst, _∙_}
 use mathlib.Core.List.{List, [], _∷_, _++_, map, append-assoc, append-nil}
-use mathlib.Core.Bool.{Bool, true, false, cond, not, _||_}
-use Prim.Native.Nat.{ℕ, zero, suc, _+_, _*_, _-_, _/_, _%_, _≤_, _<_}
-use native.Mathlib.Nat.{zero-add, add-comm, suc-add, le-of-suc-le-suc, not-suc-le-zero}
+use mathlib.Core.Bool.{true, false, not}
+use Prim.Native.Nat.{ℕ, zero, suc, _+_, _≤_, _<_}
+use native.Mathlib.Nat.{not-suc-le-zero}
 use native.Mathlib.Omega.{arith}
-use lib.ListN.{length, take, drop, getD, set, replicate, length-append, take-append-drop}
-use lib.Seq.{split-at, drop-cons, set-split}
-use lib.Dec.{eqb, leb, ltb}
+use lib.ListN.{length, take, drop, length-append, take-append-drop}
+use lib.Seq.{split-at, drop-cons}
+use lib.Dec.{eqb}
 use borrow.Author.Tests.{eq-eqb}
-use Rattle.mode.specs.Mode.{Cipher, Lawful, Source, RunRecord, pass, recordOf}
-use Rattle.mode.specs.Table.{Answer, refused, given, beyond, anyBeyond, apart, limit}
+use Rattle.mode.specs.Mode.{Cipher, Lawful, RunRecord, pass, recordOf}
+use Rattle.mode.specs.Table.{beyond, anyBeyond, apart, limit}
 use Rattle.mode.specs.Calls.{blocksOfRun, joined, joinedOnto, joinedAll}
 use Rattle.mode.specs.Parallel.{Work, sourceOf, ivOf, Fits, Run, Segment, pending, recorded, blocksOfRuns, runsIn, recordIn, bytesIn, isRecorded, runsOf, bytesOf, blocksIn, noSegment, segment, consecutive, AllRecorded, recordsAt}
-use Rattle.mode.proofs.Laws.{AllLong, all-left, all-right, record-append}
+use Rattle.mode.proofs.Laws.{AllLong, all-left, record-append}
 use Rattle.mode.proofs.Runs.{GoodRun, outputOf, recordFor, outputOf-append, iv-long, within}
 
 -- ---- runs and blocks of segments

@@ -1,20 +1,19 @@
 -- The statement of demand 3 is not vacuous and not loose: a list of calls that may stand, with three refused calls, an empty run and a join
 -- of a list; and four calls that are wrong, of which it does not hold.
-use mathlib.Core.Path.{_≡_, refl, sym, ap, _∙_}
-use mathlib.Core.Logic.{_⊎_, inl, inr}
+use mathlib.Core.Path.{_≡_, refl, ap}
+use mathlib.Core.Logic.{inl, inr}
 use mathlib.Core.List.{List, [], _∷_, _++_}
-use mathlib.Core.Bool.{Bool, true, false}
-use Prim.Native.Nat.{ℕ, zero, suc, _+_, _*_, _-_, _≤_, _<_}
+use Prim.Native.Nat.{ℕ, _+_, _*_, _≤_, _<_}
 use native.Mathlib.Omega.{arith}
-use lib.ListN.{length, take, drop, getD, replicate}
+use lib.ListN.{length, take, getD, replicate}
 use lib.Dec.{lit<, lit≤, ltb}
 use lib.Bits.{bitXor}
 use Rattle.blocks.specs.Bytes.{xorBytes, firstBlocks, same, concat}
 use Rattle.blocks.specs.Gf128.{timesX, jump, fallen, shiftLeft, reduction}
-use Rattle.mode.specs.Mode.{Cipher, Lawful, Source, plaintext, ciphertext, RunRecord, blocksOf, padded, zeroBlock, encrypt, startMask, middletext, written, pass, unbroken, recordOf, ivPart, cipherPart, tagPart, tagFrom, unbrokenTag, sealedRecord}
+use Rattle.mode.specs.Mode.{Cipher, Lawful, plaintext, ciphertext, RunRecord, blocksOf, padded, encrypt, startMask, middletext, written, pass, unbroken, recordOf, ivPart, cipherPart, tagPart, tagFrom, unbrokenTag, sealedRecord}
 use Rattle.mode.specs.Table.{Answer, refused, given, decide, not16, unaligned, beyond, anyBeyond, apart, none, notSealed}
-use Rattle.mode.specs.Calls.{unalignedRun, Kind, middle, last, blocksOfRun, Outcome, outcomeBy, joined, joinedOnto, joinedAll, blank, joinTwo, joinList, passFrom, runRecord, sealRun, checkRun, close, test, Calls, callsOf, openSealed, openRows, notPadded, orEmpty, unpadded, unpadFrom, plaintextOf, decrypted}
-use Rattle.mode.specs.Parallel.{Work, sealing, checking, sourceOf, ivOf, textOf, lastKind, allBlocks, Fits, Cut, Setting, WellFormed, Run, runsFrom, Segment, pending, recorded, blocksOfRuns, runsIn, recordIn, bytesIn, isRecorded, runsOf, bytesOf, blocksIn, segment, Call, runAt, joinPair, joinMany, consecutive, AllRecorded, recordsAt, MayStand, mergeBy, recordBy, headOr, firstRun, empties, start, lent, outcomeOfRun, runOutcome, answerOf, after, afterAll, EachCall}
+use Rattle.mode.specs.Calls.{unalignedRun, Kind, last, blocksOfRun, Outcome, outcomeBy, joined, joinedOnto, joinedAll, blank, joinTwo, joinList, passFrom, runRecord, sealRun, checkRun, close, test, Calls, callsOf, openSealed, openRows, notPadded, orEmpty, unpadded, unpadFrom, plaintextOf, decrypted}
+use Rattle.mode.specs.Parallel.{sealing, checking, sourceOf, ivOf, textOf, lastKind, allBlocks, Fits, Cut, Setting, WellFormed, Run, runsFrom, Segment, recorded, blocksOfRuns, runsIn, recordIn, bytesIn, isRecorded, runsOf, bytesOf, blocksIn, Call, runAt, joinPair, joinMany, consecutive, AllRecorded, MayStand, mergeBy, recordBy, headOr, firstRun, empties, start, lent, outcomeOfRun, runOutcome, answerOf, after, afterAll, EachCall}
 use Rattle.mode.specs.Demands.{whole, recordOfSegments, ciphertextOfSegment, AsSaid, Agrees, Demand3}
 use Rattle.mode.proofs.Demand3.{demand3}
 

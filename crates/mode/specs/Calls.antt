@@ -1,9 +1,8 @@
 -- What each call answers: a total function of the contents handed in and of the length of the lent output, and of nothing else.
-use mathlib.Core.Path.{_≡_}
 use mathlib.Core.Option.{Option, some, none as no-message}
 use mathlib.Core.List.{List, [], _∷_, _++_}
 use mathlib.Core.Bool.{Bool, true, false, cond, not}
-use Prim.Native.Nat.{ℕ, zero, suc, _+_, _*_, _-_, _/_, _%_}
+use Prim.Native.Nat.{ℕ, zero, suc, _+_, _*_, _-_}
 use lib.ListN.{length, take}
 use lib.Dec.{ltb}
 use Rattle.blocks.specs.Bytes.{xorBytes, same, zeros}

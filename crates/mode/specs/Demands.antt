@@ -2,15 +2,15 @@
 -- proofs for ours, `callsOf c`, and proofs/Witness.antt has wrong ones of which demand 3 does not hold.
 use mathlib.Core.Path.{_≡_}
 use mathlib.Core.Logic.{_⊎_, _↔_}
-use mathlib.Core.List.{List, [], _∷_, _++_}
-use mathlib.Core.Bool.{Bool, true, false, cond}
-use Prim.Native.Nat.{ℕ, zero, suc, _+_, _*_, _≤_}
+use mathlib.Core.List.{List, [], _∷_}
+use mathlib.Core.Bool.{true, false, cond}
+use Prim.Native.Nat.{ℕ, suc, _*_, _≤_}
 use lib.ListN.{length, take, drop}
 use lib.Dec.{leb}
 use Rattle.blocks.specs.Bytes.{Bytes, Block}
-use Rattle.mode.specs.Mode.{Cipher, Source, plaintext, ciphertext, Pass, RunRecord, blocksOf, padded, unbroken, unbrokenTag, recordOf, ivPart, cipherPart, tagPart, sealedRecord, UnbrokenCheck}
-use Rattle.mode.specs.Table.{Answer, refused, given, apart, notSealed, longestMessage}
-use Rattle.mode.specs.Calls.{Outcome, outcomeBy, openSealed, Calls}
+use Rattle.mode.specs.Mode.{Cipher, plaintext, ciphertext, Pass, RunRecord, blocksOf, padded, unbroken, unbrokenTag, recordOf, ivPart, cipherPart, tagPart, sealedRecord, UnbrokenCheck}
+use Rattle.mode.specs.Table.{refused, given, apart, notSealed, longestMessage}
+use Rattle.mode.specs.Calls.{outcomeBy, openSealed, Calls}
 use Rattle.mode.specs.Parallel.{Work, sealing, checking, sourceOf, ivOf, allBlocks, Setting, WellFormed, Run, Segment, recorded, recordIn, bytesIn, isRecorded, blocksIn, segment, Call, runAt, joinPair, joinMany, consecutive, recordsAt, MayStand, start, lent, runOutcome, answerOf, afterAll, EachCall}
 
 -- ---- demand 2

@@ -1,11 +1,11 @@
 -- The mode of document 01 (source documents 000 and 003), over any block cipher that is cut into two halves.
 use mathlib.Core.Path.{_≡_}
 use mathlib.Core.List.{List, [], _∷_, _++_}
-use mathlib.Core.Bool.{Bool, true, false, cond}
-use Prim.Native.Nat.{ℕ, zero, suc, _+_, _*_, _-_, _/_, _%_}
-use lib.ListN.{length, take, drop, replicate}
+use mathlib.Core.Bool.{cond}
+use Prim.Native.Nat.{ℕ, zero, _+_, _-_, _/_, _%_}
+use lib.ListN.{length, take, drop}
 use Rattle.blocks.specs.Bytes.{Bytes, Block, xorBytes, same, zeros, firstBlocks}
-use Rattle.blocks.specs.Gf128.{timesX, jump}
+use Rattle.blocks.specs.Gf128.{timesX}
 -- document 01's run record, as the code declares it: first, count, preauthenticator
 pub use Rattle.mode.specs.declared.RunRecord.{RunRecord}
 

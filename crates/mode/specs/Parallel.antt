@@ -3,8 +3,8 @@ use mathlib.Core.Path.{_≡_}
 use mathlib.Core.Logic.{_⊎_}
 use mathlib.Core.List.{List, [], _∷_, _++_, map}
 use mathlib.Core.Bool.{Bool, true, false}
-use Prim.Native.Nat.{ℕ, zero, suc, _+_, _*_, _-_, _/_, _%_, _≤_, _<_}
-use lib.ListN.{length, take, drop, replicate, getD, set}
+use Prim.Native.Nat.{ℕ, zero, suc, _+_, _-_, _/_, _%_, _≤_, _<_}
+use lib.ListN.{length, take, drop, getD, set}
 use Rattle.blocks.specs.Bytes.{concat}
 use Rattle.mode.specs.Mode.{Source, plaintext, ciphertext, RunRecord, ivPart, cipherPart}
 use Rattle.mode.specs.Table.{Answer, refused, given, apart, longestMessage, longestSealed}

@@ -1,9 +1,9 @@
 -- What the engine gives under an expanded key is AES-128 under the key in front of it.
-use mathlib.Core.Path.{_≡_, refl, sym, ap, _∙_, subst}
-use mathlib.Core.List.{List, [], _∷_, _++_}
-use Prim.Native.Nat.{ℕ, zero, suc, _+_, _≤_}
+use mathlib.Core.Path.{_≡_, sym, ap, _∙_}
+use mathlib.Core.List.{List}
+use Prim.Native.Nat.{ℕ, zero, suc, _+_}
 use native.Mathlib.Omega.{arith}
-use lib.ListN.{length, take, length-append}
+use lib.ListN.{length, take}
 use lib.Seq.{take-append-le, take-all}
 use Rattle.blocks.specs.Bytes.{firstBlocks}
 use Rattle.fips197.specs.KeyExpansion.{nextWord, words, keyExpansion}

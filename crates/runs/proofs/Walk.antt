@@ -2,13 +2,13 @@
 -- loop stands, is what there was to do from the start.
 use mathlib.Core.Path.{_≡_, refl, sym, ap, ap₂, _∙_}
 use mathlib.Core.List.{List, [], _∷_, _++_, append-assoc, append-nil}
-use Prim.Native.Nat.{ℕ, zero, suc, _+_, _-_, _*_, _/_, _≤_, _<_}
+use Prim.Native.Nat.{ℕ, suc, _+_, _-_, _*_, _≤_, _<_}
 use native.Mathlib.Omega.{arith}
 use lib.ListN.{length, take, drop, length-append, length-drop, take-append-drop}
 use lib.Seq.{take-at, drop-at, drop-drop, length-take-le}
 use Rattle.blocks.specs.Bytes.{xorBytes, firstBlocks}
 use Rattle.blocks.specs.Gf128.{timesX}
-use Rattle.mode.specs.Mode.{Cipher, Pass, plaintext, ciphertext, zeroBlock, middletext, written, pass}
+use Rattle.mode.specs.Mode.{Pass, plaintext, ciphertext, zeroBlock, middletext, written, pass}
 use Rattle.mode.specs.Aes.{aes}
 use Rattle.mode.specs.Calls.{decrypted}
 use Rattle.fips197.specs.Aes128.{firstHalf, secondHalf, invFirstHalf, invSecondHalf}

@@ -1,16 +1,14 @@
 -- By the rows of the table: each return under what was tested on the way to it.
 use borrow.Author.Needs.{needs}
-use mathlib.Core.Path.{_≡_, sym, ap, ap₂, _∙_}
+use mathlib.Core.Path.{_≡_, ap, _∙_}
 use mathlib.Core.List.{List}
 use Prim.Native.Nat.{ℕ, _+_, _≤_, _<_}
 use native.Mathlib.Omega.{arith}
 use Rattle.blocks.specs.Bytes.{xorBytes}
 use Rattle.blocks.specs.Gf128.{jump}
-use Rattle.mode.specs.Mode.{RunRecord}
 use Rattle.mode.specs.Table.{limit}
-use Rattle.mode.specs.Calls.{RecordAnswer, joined}
+use Rattle.mode.specs.Calls.{joined}
 use Rattle.mode.proofs.Join.{join-left-beyond, join-right-beyond, join-apart, join-given}
-use borrow.Author.Needs.{needs}
 use Rattle.mode.proofs.RunRecord.join.Statement.{statement}
 use Rattle.mode.proofs.RunRecord.join.Tie as tie
 

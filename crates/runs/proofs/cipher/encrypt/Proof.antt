@@ -1,11 +1,10 @@
 -- One half after the other, over the expanded key.
 use borrow.Author.Needs.{needs}
-use mathlib.Core.Path.{_≡_, ap, _∙_}
+use mathlib.Core.Path.{ap, _∙_}
 use Rattle.fips197.specs.Aes128.{secondHalf}
 use Rattle.mode.specs.Mode.{encrypt as encryptOf}
 use Rattle.runs.specs.Run.{keyOf, Expanded}
 use Rattle.runs.proofs.Halves.{first-is, second-is}
-use borrow.Author.Needs.{needs}
 use Rattle.runs.proofs.cipher.encrypt.Statement.{statement}
 use Rattle.runs.proofs.cipher.encrypt.Tie as tie
 

@@ -8,7 +8,6 @@ use Rattle.blocks.specs.Bytes.{xorBytes, same}
 use Rattle.mode.specs.Mode.{encrypt as encryptOf, startMask, zeroBlock}
 use Rattle.mode.specs.Aes.{aes}
 use Rattle.runs.specs.Run.{keyOf}
-use borrow.Author.Needs.{needs}
 use Rattle.runs.proofs.mask.start_mask.Statement.{statement}
 use Rattle.runs.proofs.mask.start_mask.Tie as tie
 

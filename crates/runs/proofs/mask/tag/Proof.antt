@@ -1,13 +1,12 @@
 -- Step by step.
 use borrow.Author.Needs.{needs}
-use mathlib.Core.Path.{_≡_, ap, _∙_}
+use mathlib.Core.Path.{ap, _∙_}
 use mathlib.Core.List.{List}
 use Prim.Native.Nat.{ℕ}
 use Rattle.blocks.specs.Bytes.{xorBytes}
 use Rattle.mode.specs.Mode.{encrypt as encryptOf, tagFrom}
 use Rattle.mode.specs.Aes.{aes}
 use Rattle.runs.specs.Run.{keyOf}
-use borrow.Author.Needs.{needs}
 use Rattle.runs.proofs.mask.tag.Statement.{statement}
 use Rattle.runs.proofs.mask.tag.Tie as tie
 

@@ -1,10 +1,9 @@
 -- By what the two steps ensure.
 use borrow.Author.Needs.{needs}
-use mathlib.Core.Path.{_≡_, ap, _∙_}
+use mathlib.Core.Path.{ap, _∙_}
 use mathlib.Core.List.{List}
 use Prim.Native.Nat.{ℕ}
 use Rattle.blocks.specs.Bytes.{xorBytes}
-use borrow.Author.Needs.{needs}
 use Rattle.runs.proofs.run.take_up.Statement.{statement}
 use Rattle.runs.proofs.run.take_up.Tie as tie
 
