@@ -6,7 +6,7 @@ use native.Mathlib.Nat.{suc-mul, add-comm, not-suc-le-zero, le-of-suc-le-suc}
 use native.Mathlib.Omega.{arith}
 use lib.Dec.{lit<}
 use lib.ListN.{length, getD, take, drop, length-take, length-drop}
-use lib.Seq.{slice, slice-cons, slice-empty, take-at, drop-at, take-add, drop-drop, take-nil, getD-take, getD-drop}
+use lib.Seq.{slice, take-at, drop-at, take-add, drop-drop, getD-take, getD-drop}
 use Rattle.blocks.specs.Bytes.{Bytes, Block, Blocks, none, more, firstBlocks, concat}
 
 pub length-blocks : (n : ℕ) (a : List ℕ) → length (firstBlocks n a) ≡ n

@@ -10,7 +10,7 @@ use lib.Arith.{digits-lt, digits-div, digits-mod}
 use lib.Bits.{bitXor, xor-block, xor-shifted}
 use lib.Dec.{lit<}
 use lib.ListN.{length, getD, take, length-append}
-use lib.Pow.{pow-add, pow-pos, mod-pow-add}
+use lib.Pow.{pow-add, mod-pow-add}
 use lib.Seq.{take-suc}
 use Rattle.blocks.specs.Bytes.{Bytes, Block, xorBytes, zeros}
 use Rattle.blocks.specs.Field.{step, steps}

@@ -2,15 +2,15 @@
 -- x^n is the jump by n.
 use mathlib.Core.Path.{_≡_, refl, sym, ap, ap₂, _∙_}
 use mathlib.Core.List.{List}
-use Prim.Native.Nat.{ℕ, _+_, _^_, _<_}
+use Prim.Native.Nat.{ℕ, _^_, _<_}
 use lib.Bits.{bitXor}
 use lib.Dec.{lit<}
 use Rattle.blocks.specs.Bytes.{Block, xorBytes}
 use Rattle.blocks.specs.Field.{steps, mul}
-use Rattle.blocks.specs.Gf128.{timesX, jump, num, product, one, power}
-use Rattle.blocks.proofs.Field.{mul-left, mul-right, mul-one, mul-comm, mul-assoc, mul-lt, mul-steps, steps-mul, power-mul}
+use Rattle.blocks.specs.Gf128.{jump, num, product, one, power}
+use Rattle.blocks.proofs.Field.{mul-right, mul-one, mul-comm, mul-assoc, mul-lt, mul-steps, power-mul}
 use Rattle.blocks.proofs.XorBytes.{block-xor}
-use Rattle.blocks.proofs.TimesX.{block-jump, block-one, block-power}
+use Rattle.blocks.proofs.TimesX.{block-jump, block-one}
 use Rattle.blocks.proofs.Num.{same-block, block-lt, block-bytesOf, num-bytesOf, num-xor, num-jump}
 
 pub poly-lt : 0x87 < 2 ^ 128

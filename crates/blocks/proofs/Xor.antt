@@ -4,7 +4,7 @@ use Prim.Native.Nat.{ℕ, zero, suc, _+_, _*_, _/_, _%_, _<_, suc-le-suc, zero-l
 use native.Mathlib.Nat.{mod-lt}
 use native.Mathlib.Omega.{arith}
 use lib.Arith.{bin-ind, digits-div, digits-mod}
-use lib.Bits.{bitXor, differ, xor-step, xor-comm, xor-self, xor-zero-r, xor-lt}
+use lib.Bits.{bitXor, differ, xor-step, xor-comm, xor-self, xor-lt}
 
 pub two-pos : 0 < 2
 two-pos = suc-le-suc zero-le

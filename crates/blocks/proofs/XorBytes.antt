@@ -1,11 +1,11 @@
 -- Exclusive or of lists of bytes: it commutes, associates, cancels, and zero does nothing; lengths, elements and bounds.
 use mathlib.Core.Path.{_≡_, refl, sym, ap, ap₂, _∙_}
-use mathlib.Core.List.{List, [], _∷_, _++_}
+use mathlib.Core.List.{List, [], _∷_}
 use Prim.Native.Nat.{ℕ, zero, suc}
 use native.Mathlib.Nat.{suc-inj}
 use native.Mathlib.Omega.{arith}
-use lib.Bits.{bitXor, xor-comm, xor-self, xor-zero-l, xor-zero-r}
-use lib.ListN.{length, getD, set, replicate}
+use lib.Bits.{bitXor, xor-comm, xor-self, xor-zero-r}
+use lib.ListN.{length, getD}
 use Rattle.blocks.specs.Bytes.{Bytes, Block, xorBytes, zeros}
 use Rattle.blocks.proofs.Xor.{xor-assoc, xor8}
 

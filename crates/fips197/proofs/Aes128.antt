@@ -1,6 +1,6 @@
 -- What a mode needs to know of AES-128, under any key of 16 bytes: the halves take blocks to blocks, each undoes its inverse, both ways
 -- round, and the second after the first is FIPS 197's cipher.
-use mathlib.Core.Path.{_≡_, refl, sym, ap, _∙_}
+use mathlib.Core.Path.{_≡_, sym, ap, _∙_}
 use mathlib.Core.List.{List}
 use Prim.Native.Nat.{ℕ, _<_}
 use lib.Dec.{lit<, lit≤}

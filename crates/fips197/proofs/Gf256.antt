@@ -3,9 +3,8 @@ use mathlib.Core.Path.{_≡_, refl, sym, ap, ap₂, _∙_}
 use Prim.Native.Nat.{ℕ, zero, suc, _+_, _<_}
 use native.Mathlib.Nat.{zero-add, suc-add}
 use lib.Dec.{lit<}
-use Rattle.blocks.specs.Field.{step, mul}
 use Rattle.blocks.proofs.Linear.{Linear}
-use Rattle.blocks.proofs.Field.{step-linear, step-lt, mul-lt, mul-left, mul-right, mul-comm, mul-one, mul-assoc}
+use Rattle.blocks.proofs.Field.{step-linear, step-lt, mul-lt, mul-right, mul-comm, mul-one, mul-assoc}
 use Rattle.fips197.specs.Gf256.{xtimes, gmul, power, inverse}
 
 poly-lt : 0x1b < 256

@@ -1,7 +1,7 @@
 -- Lengths alone, whatever the bytes are: under a key of 16, each half takes 16 to 16.
-use mathlib.Core.Path.{_≡_, refl, sym, ap, _∙_}
+use mathlib.Core.Path.{_≡_, refl, sym, _∙_}
 use mathlib.Core.List.{List, [], _∷_}
-use Prim.Native.Nat.{ℕ, zero, suc, _+_, _*_, _-_, _≤_, _<_}
+use Prim.Native.Nat.{ℕ, zero, suc, _+_, _*_, _≤_, _<_}
 use native.Mathlib.Nat.{suc-mul, not-suc-le-zero, le-of-suc-le-suc}
 use native.Mathlib.Omega.{arith}
 use lib.Dec.{lit<}
@@ -9,7 +9,7 @@ use lib.ListN.{length, getD, take, drop, length-take, length-drop}
 use lib.Seq.{slice}
 use Rattle.blocks.specs.Bytes.{xorBytes, firstBlocks}
 use Rattle.blocks.proofs.XorBytes.{length-xor}
-use Rattle.fips197.specs.State.{subBytes, invSubBytes, shiftRows, invShiftRows, mixColumns, invMixColumns}
+use Rattle.fips197.specs.State.{subBytes, invSubBytes, shiftRows, mixColumns}
 use Rattle.fips197.specs.KeyExpansion.{words, keyExpansion, roundKeys}
 use Rattle.fips197.specs.Cipher.{round, lastRound, invRound, invLastRound, rounds, invRounds}
 use Rattle.fips197.specs.Cipher as C

@@ -1,6 +1,6 @@
 -- Steps on a column that say each byte alike, from itself down the column: a byte becomes f of itself plus g, h and k of those below.
 -- One such step after another is a third, whose factors are those of the product; so MixColumns and its inverse undo each other.
-use mathlib.Core.Path.{_≡_, refl, sym, ap, ap₂, _∙_}
+use mathlib.Core.Path.{_≡_, sym, ap, ap₂, _∙_}
 use mathlib.Core.Bool.{Bool}
 use Prim.Native.Nat.{ℕ, _^_, _<_}
 use lib.Bits.{bitXor, xor-comm, xor-zero-r}
@@ -11,7 +11,7 @@ use Rattle.blocks.proofs.Xor.{xor-assoc, xor-swap, xor8}
 use Rattle.blocks.proofs.Linear.{Linear, linear-same, linear-none, linear-xor, linear-of, by-test}
 use Rattle.fips197.specs.Gf256.{xtimes, gmul}
 use Rattle.fips197.specs.State.{sum4, mix, invMix}
-use Rattle.fips197.proofs.Gf256.{xtimes-linear, gmul-linear, gmul-lt}
+use Rattle.fips197.proofs.Gf256.{xtimes-linear, gmul-linear}
 
 -- ---- sums of four
 

@@ -5,7 +5,7 @@ use mathlib.Core.List.{List, [], _∷_, _++_}
 use Prim.Native.Nat.{ℕ, zero, suc, _+_, _-_, _≤_, _<_}
 use native.Mathlib.Numerals.{add-one}
 use native.Mathlib.Omega.{arith}
-use lib.ListN.{length, getD, take, drop, take-append-drop}
+use lib.ListN.{length, take, drop, take-append-drop}
 use lib.Seq.{slice, slice-empty, slice-cons, take-take, length-take-le, drop-append-le}
 use Rattle.blocks.specs.Bytes.{Block, Blocks, none, more, xorBytes}
 use Rattle.blocks.proofs.XorBytes.{block-xor}

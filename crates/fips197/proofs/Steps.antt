@@ -1,14 +1,14 @@
 -- Each step of a round takes blocks to blocks, and is undone by its inverse, both ways round.
-use mathlib.Core.Path.{_≡_, refl, sym, ap, _∙_}
+use mathlib.Core.Path.{_≡_, sym, ap, _∙_}
 use mathlib.Core.List.{List, [], _∷_}
 use Prim.Native.Nat.{ℕ, _+_, _-_, _*_, _/_, _%_, _<_}
-use lib.ListN.{length, getD}
+use lib.ListN.{getD}
 use Rattle.blocks.specs.Bytes.{Block, xorBytes}
 use Rattle.blocks.specs.Tab.{tab}
-use Rattle.blocks.proofs.XorBytes.{block-xor, xorBytes-cancel}
+use Rattle.blocks.proofs.XorBytes.{xorBytes-cancel}
 use Rattle.blocks.proofs.Tab.{getD-tab, tab-ext, tab-self, block-tab}
 use Rattle.fips197.specs.Sbox.{sbox, invSbox}
-use Rattle.fips197.specs.State.{subBytes, invSubBytes, shiftRows, invShiftRows, below, mix, invMix, mixColumns, invMixColumns, sum4}
+use Rattle.fips197.specs.State.{subBytes, invSubBytes, shiftRows, invShiftRows, below, mix, invMix, mixColumns, invMixColumns}
 use Rattle.fips197.proofs.Gf256.{gmul-lt}
 use Rattle.fips197.proofs.SboxTables.{sbox-lt, invSbox-lt, invSbox-sbox, sbox-invSbox}
 use Rattle.fips197.proofs.Mix.{sum4-lt, invMix-mix, mix-invMix}

@@ -1,10 +1,9 @@
 -- One half after the other, over the expanded key.
 use borrow.Author.Needs.{needs}
-use mathlib.Core.Path.{_≡_, ap, _∙_}
+use mathlib.Core.Path.{ap, _∙_}
 use Rattle.fips197.specs.Aes128.{secondHalf}
 use Rattle.aes.proofs.Lookup.{sbox-table}
 use Rattle.fips197.proofs.Aes128.{first-by, second-by, encrypt-halves}
-use borrow.Author.Needs.{needs}
 use Rattle.aes.proofs.encrypt_block.Statement.{statement}
 use Rattle.aes.proofs.encrypt_block.Tie as tie
 

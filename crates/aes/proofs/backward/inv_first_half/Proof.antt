@@ -1,8 +1,6 @@
 -- By what the steps ensure.
 use borrow.Author.Needs.{needs}
-use mathlib.Core.Path.{_≡_}
 use Rattle.fips197.specs.Cipher.{invFirstHalf}
-use borrow.Author.Needs.{needs}
 use Rattle.aes.proofs.backward.inv_first_half.Statement.{statement}
 use Rattle.aes.proofs.backward.inv_first_half.Tie as tie
 

@@ -1,8 +1,6 @@
 -- By what the steps ensure.
 use borrow.Author.Needs.{needs}
-use mathlib.Core.Path.{_≡_}
 use Rattle.fips197.specs.Cipher.{invSecondHalf, invLastRound}
-use borrow.Author.Needs.{needs}
 use Rattle.aes.proofs.backward.inv_second_half.Statement.{statement}
 use Rattle.aes.proofs.backward.inv_second_half.Tie as tie
 

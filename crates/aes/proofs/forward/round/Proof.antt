@@ -1,8 +1,6 @@
 -- By what the steps ensure.
 use borrow.Author.Needs.{needs}
-use mathlib.Core.Path.{_≡_}
 use Rattle.fips197.specs.Cipher.{round}
-use borrow.Author.Needs.{needs}
 use Rattle.aes.proofs.forward.round.Statement.{statement}
 use Rattle.aes.proofs.forward.round.Tie as tie
 

@@ -2,7 +2,6 @@
 use borrow.Author.Needs.{needs}
 use mathlib.Core.Path.{_≡_, refl, sym, _∙_}
 use Prim.Native.Nat.{_≤_, _-_}
-use native.Mathlib.Omega.{arith}
 use lib.Seq.{slice}
 use Rattle.blocks.specs.Bytes.{firstBlocks}
 use Rattle.blocks.proofs.Chunks.{length-blocks}

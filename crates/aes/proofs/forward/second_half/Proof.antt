@@ -1,8 +1,6 @@
 -- By what the steps ensure.
 use borrow.Author.Needs.{needs}
-use mathlib.Core.Path.{_≡_}
 use Rattle.fips197.specs.Cipher.{secondHalf, lastRound}
-use borrow.Author.Needs.{needs}
 use Rattle.aes.proofs.forward.second_half.Statement.{statement}
 use Rattle.aes.proofs.forward.second_half.Tie as tie
 

@@ -5,7 +5,6 @@ use Prim.Native.Nat.{_*_}
 use native.Mathlib.Omega.{arith}
 use lib.ListN.{length}
 use Rattle.aes.proofs.Expand.{word-stored}
-use borrow.Author.Needs.{needs}
 use Rattle.aes.proofs.key.put_word.Statement.{statement}
 use Rattle.aes.proofs.key.put_word.Tie as tie
 

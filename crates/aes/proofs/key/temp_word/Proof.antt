@@ -1,13 +1,11 @@
 -- By the two cases of the word's number.
 use borrow.Author.Needs.{needs}
-use mathlib.Core.Path.{_≡_}
 use Prim.Native.Nat.{ℕ, _<_, _-_, _%_}
 use native.Mathlib.Omega.{arith}
 use mir.Val.{Fits}
 use mir.Syntax.{w8}
 use lib.ListN.{getD}
 use Rattle.aes.proofs.Expand.{temp-turned, temp-kept}
-use borrow.Author.Needs.{needs}
 use Rattle.aes.proofs.key.temp_word.Statement.{statement}
 use Rattle.aes.proofs.key.temp_word.Tie as tie
 

@@ -1,7 +1,6 @@
 -- The four bytes, spelt out.
 use borrow.Author.Needs.{needs}
 use Rattle.aes.proofs.Expand.{word-spelt}
-use borrow.Author.Needs.{needs}
 use Rattle.aes.proofs.key.word_at.Statement.{statement}
 use Rattle.aes.proofs.key.word_at.Tie as tie
 

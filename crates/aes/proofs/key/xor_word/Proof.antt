@@ -1,9 +1,6 @@
 -- Four bytes, each with its own.
 use borrow.Author.Needs.{needs}
-use mathlib.Core.Path.{_≡_}
-use lib.ListN.{length}
 use Rattle.blocks.proofs.Tab.{tab-xor}
-use borrow.Author.Needs.{needs}
 use Rattle.aes.proofs.key.xor_word.Statement.{statement}
 use Rattle.aes.proofs.key.xor_word.Tie as tie
 

@@ -1,10 +1,9 @@
 -- A byte is below 256, so that the bit that falls out is its top bit.
-use mathlib.Core.Path.{_≡_, sym, ap}
+use mathlib.Core.Path.{_≡_, ap}
 use Prim.Native.Nat.{ℕ, _*_, _/_, _%_}
 use native.Mathlib.Omega.{arith}
 use lib.Bits.{bitXor}
 use Rattle.blocks.specs.Field.{step}
-use borrow.Author.Needs.{needs}
 use Rattle.aes.proofs.state.double.Statement.{statement}
 use Rattle.aes.proofs.state.double.Tie as tie
 

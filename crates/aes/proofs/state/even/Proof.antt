@@ -1,10 +1,9 @@
 -- Two doublings of a + c serve 05 and 04.
 use borrow.Author.Needs.{needs}
-use mathlib.Core.Path.{_≡_, ap, _∙_}
+use mathlib.Core.Path.{ap, _∙_}
 use lib.Bits.{bitXor}
 use Rattle.fips197.specs.Gf256.{xtimes}
 use Rattle.fips197.proofs.Mix.{even-once}
-use borrow.Author.Needs.{needs}
 use Rattle.aes.proofs.state.even.Statement.{statement}
 use Rattle.aes.proofs.state.even.Tie as tie
 

@@ -1,10 +1,9 @@
 -- One doubling serves 02 and 03.
 use borrow.Author.Needs.{needs}
-use mathlib.Core.Path.{_≡_, ap, _∙_}
+use mathlib.Core.Path.{ap, _∙_}
 use Prim.Native.Nat.{ℕ}
 use lib.Bits.{bitXor}
 use Rattle.fips197.proofs.Mix.{mix-once}
-use borrow.Author.Needs.{needs}
 use Rattle.aes.proofs.state.mix.Statement.{statement}
 use Rattle.aes.proofs.state.mix.Tie as tie
 

@@ -1,12 +1,10 @@
 -- The loop has joined the first i differences.
 use borrow.Author.Needs.{needs}
-use mathlib.Core.Path.{_≡_, refl, sym, ap, ap₂, _∙_}
+use mathlib.Core.Path.{_≡_, refl, ap, _∙_}
 use Prim.Native.Nat.{ℕ, _≤_, _-_}
 use native.Mathlib.Omega.{arith}
 use native.Mathlib.Numerals.{add-one}
-use lib.Bits.{bitOr, bitXor}
 use lib.Dec.{eqb}
-use lib.ListN.{length, getD}
 use Rattle.blocks.proofs.Same.{difference, same-by}
 use Rattle.blocks.proofs.block.equal.Statement.{statement}
 use Rattle.blocks.proofs.block.equal.Tie as tie

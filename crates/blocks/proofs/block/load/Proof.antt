@@ -3,7 +3,7 @@ use borrow.Author.Needs.{needs}
 use mathlib.Core.Path.{_≡_, refl, _∙_}
 use mathlib.Core.List.{List}
 use Prim.Native.Nat.{ℕ, _+_, _≤_, _-_}
-use lib.ListN.{length, getD}
+use lib.ListN.{getD}
 use Rattle.blocks.proofs.Tab.{filled, fill-none, fill-more, fill-all, tab-part}
 use Rattle.blocks.proofs.block.load.Statement.{statement}
 use Rattle.blocks.proofs.block.load.Tie as tie

@@ -4,7 +4,7 @@ use mathlib.Core.Path.{_≡_, refl, _∙_}
 use mathlib.Core.List.{List}
 use Prim.Native.Nat.{ℕ, _≤_, _-_}
 use lib.Bits.{bitXor}
-use lib.ListN.{length, getD}
+use lib.ListN.{getD}
 use Rattle.blocks.proofs.Tab.{filled, fill-none, fill-more, fill-all, tab-xor}
 use Rattle.blocks.proofs.block.xor.Statement.{statement}
 use Rattle.blocks.proofs.block.xor.Tie as tie

@@ -1,12 +1,11 @@
 -- The product with x^n is the jump by n.
 use borrow.Author.Needs.{needs}
-use mathlib.Core.Path.{_≡_, ap, _∙_}
+use mathlib.Core.Path.{ap, _∙_}
 use mathlib.Core.List.{List}
 use Prim.Native.Nat.{ℕ}
 use Rattle.blocks.specs.Gf128.{product}
 use Rattle.blocks.proofs.Array.{block-by}
 use Rattle.blocks.proofs.Product.{product-power}
-use borrow.Author.Needs.{needs}
 use Rattle.blocks.proofs.gf128.jump.Statement.{statement}
 use Rattle.blocks.proofs.gf128.jump.Tie as tie
 

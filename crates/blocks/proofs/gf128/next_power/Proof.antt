@@ -4,7 +4,6 @@ use mathlib.Core.Path.{_≡_, sym, ap, _∙_}
 use Prim.Native.Nat.{ℕ}
 use native.Mathlib.Omega.{arith}
 use Rattle.blocks.specs.Gf128.{timesX, jump, product}
-use borrow.Author.Needs.{needs}
 use Rattle.blocks.proofs.gf128.next_power.Statement.{statement}
 use Rattle.blocks.proofs.gf128.next_power.Tie as tie
 

@@ -2,7 +2,6 @@
 use borrow.Author.Needs.{needs}
 use Rattle.blocks.proofs.Array.{block-by}
 use Rattle.blocks.proofs.Jump.{reduced-by}
-use borrow.Author.Needs.{needs}
 use Rattle.blocks.proofs.gf128.reduce.Statement.{statement}
 use Rattle.blocks.proofs.gf128.reduce.Tie as tie
 

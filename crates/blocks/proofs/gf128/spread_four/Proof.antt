@@ -2,7 +2,6 @@
 use borrow.Author.Needs.{needs}
 use mathlib.Core.Path.{sym}
 use Rattle.blocks.proofs.Spread.{spread-four}
-use borrow.Author.Needs.{needs}
 use Rattle.blocks.proofs.gf128.spread_four.Statement.{statement}
 use Rattle.blocks.proofs.gf128.spread_four.Tie as tie
 

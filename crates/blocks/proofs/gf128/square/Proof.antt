@@ -4,11 +4,9 @@ use mathlib.Core.Path.{_≡_, ap, _∙_}
 use native.Mathlib.Omega.{arith}
 use lib.ListN.{length, drop, length-drop}
 use lib.Seq.{take-all}
-use Rattle.blocks.specs.Bytes.{Block}
 use Rattle.blocks.specs.Spread.{spreadBytes}
 use Rattle.blocks.proofs.Array.{block-by}
 use Rattle.blocks.proofs.Jump.{squared}
-use borrow.Author.Needs.{needs}
 use Rattle.blocks.proofs.gf128.square.Statement.{statement}
 use Rattle.blocks.proofs.gf128.square.Tie as tie
 

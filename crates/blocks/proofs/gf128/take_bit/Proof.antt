@@ -6,7 +6,6 @@ use Rattle.blocks.specs.Bytes.{Block, xorBytes}
 use Rattle.blocks.specs.Gf128.{num}
 use Rattle.blocks.proofs.Array.{block-by}
 use Rattle.blocks.proofs.Horner.{bit-none, bit-one}
-use borrow.Author.Needs.{needs}
 use Rattle.blocks.proofs.gf128.take_bit.Statement.{statement}
 use Rattle.blocks.proofs.gf128.take_bit.Tie as tie
 

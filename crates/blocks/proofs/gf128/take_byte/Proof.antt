@@ -2,7 +2,6 @@
 use borrow.Author.Needs.{needs}
 use Rattle.blocks.specs.Gf128.{num}
 use Rattle.blocks.proofs.Horner.{byte-more}
-use borrow.Author.Needs.{needs}
 use Rattle.blocks.proofs.gf128.take_byte.Statement.{statement}
 use Rattle.blocks.proofs.gf128.take_byte.Tie as tie
 
