@@ -1,0 +1,202 @@
+// Seeded messages: each is sealed whole, sealed in runs and checked in runs, and opened, and all has to come to the same.
+ghost use Prim.Native.Nat.{_<_, _≤_};
+ghost use lib.ListN.{length};
+use crate::bytes::one_if;
+use crate::bytes::same;
+use crate::bytes::same_record;
+use crate::bytes::written;
+use crate::cut::check_in_runs;
+use crate::cut::cut_of;
+use crate::cut::seal_in_runs;
+use crate::hex::block;
+use crate::random::fill;
+use crate::random::noise;
+use mode::RunRecord;
+
+// How many messages agreed, by what was tried; the exclusive or of the tags, and of the last ciphertext blocks, of whole sealing.
+pub struct Agreed {
+    pub sealed: usize,
+    pub checked: usize,
+    pub opened: usize,
+    pub tags: [u8; 16],
+    pub ends: [u8; 16],
+}
+
+// ---- one message
+
+// The message sealed in runs gives the ciphertext and the tag of the whole record.
+fn seals(
+    key: [u8; 16],
+    iv: [u8; 16],
+    seed: u32,
+    message: &[u8],
+    text: &[u8],
+    tag: [u8; 16],
+) -> usize
+    ensures { λ r. ⌜ r ≤ 1 ⌝ }
+{
+    let mut out = [0u8; 6144];
+    let size = text.len();
+    if 6144 < size {
+        return 0;
+    }
+    if 6144 < message.len() {
+        return 0;
+    }
+    let whole = cut_of(seed, message.len() / 16);
+    let joined = seal_in_runs(key, iv, whole, message, &mut out);
+    let closed = calls::record::close(&key, &iv, joined.run);
+    let closing = closed.tag;
+    one_if(
+        joined.refusal == 0
+            && closed.refusal == 0
+            && same(&out[0..size], text)
+            && blocks::block::equal(closing, tag),
+    )
+}
+
+fn passes(key: [u8; 16], iv: [u8; 16], run: RunRecord, tag: [u8; 16]) -> bool {
+    calls::record::test(&key, &iv, run, &tag) == 0
+}
+
+// The ciphertext checked in runs gives the record that it gives in one run, and that record passes the tag.
+fn checks(key: [u8; 16], iv: [u8; 16], seed: u32, text: &[u8], tag: [u8; 16]) -> usize
+    ensures { λ r. ⌜ r ≤ 1 ⌝ }
+{
+    if 6144 < text.len() {
+        return 0;
+    }
+    let joined = check_in_runs(key, iv, cut_of(seed, text.len() / 16), text);
+    let whole = calls::run::check_run(&key, &iv, 0, text);
+    one_if(
+        joined.refusal == 0
+            && whole.refusal == 0
+            && same_record(joined.run, whole.run)
+            && passes(key, iv, joined.run, tag),
+    )
+}
+
+// What one message gave.
+struct One {
+    sealed: usize,
+    checked: usize,
+    opened: usize,
+    tag: [u8; 16],
+    end: [u8; 16],
+}
+
+// Nothing agreed.
+fn nothing() -> One
+    ensures { λ r. ⌜ (r .sealed ≤ 1) × (r .checked ≤ 1) × (r .opened ≤ 1) ⌝ }
+{
+    One {
+        sealed: 0,
+        checked: 0,
+        opened: 0,
+        tag: [0u8; 16],
+        end: [0u8; 16],
+    }
+}
+
+// All else held to the whole record of a message.
+fn held_to(key: [u8; 16], iv: [u8; 16], seed: u32, message: &[u8], whole: &[u8]) -> One
+    requires { ⌜ seed < 1000000 ⌝ }
+    requires { ⌜ 48 ≤ length (now whole) ⌝ }
+    ensures { λ r. ⌜ (r .sealed ≤ 1) × (r .checked ≤ 1) × (r .opened ≤ 1) ⌝ }
+{
+    let stop = whole.len() - 16;
+    let tag = blocks::block::load(whole, stop);
+    let end = blocks::block::load(whole, stop - 16);
+    let mut out = [0u8; 6144];
+    One {
+        sealed: seals(key, iv, seed + 1, message, &whole[16..stop], tag),
+        checked: checks(key, iv, seed + 1000, &whole[16..stop], tag),
+        opened: crate::open_case::answers(&key, whole, &mut out, 0, message),
+        tag,
+        end,
+    }
+}
+
+fn one_message(key: [u8; 16], iv: [u8; 16], seed: u32, message: &[u8]) -> One
+    requires { ⌜ seed < 1000000 ⌝ }
+    ensures { λ r. ⌜ (r .sealed ≤ 1) × (r .checked ≤ 1) × (r .opened ≤ 1) ⌝ }
+{
+    let mut sealed = [0u8; 6144];
+    noise(&mut sealed);
+    let w = calls::seal::seal(&key, &iv, message, &mut sealed);
+    if !written(w, 0, message.len() / 16 * 16 + 48, &sealed) {
+        return nothing();
+    }
+    let size = w.length;
+    if size < 48 {
+        return nothing();
+    }
+    if 6144 < size {
+        return nothing();
+    }
+    held_to(key, iv, seed, message, &sealed[0..size])
+}
+
+// ---- the messages
+
+// Every tenth message may have some thousands of bytes, the others some hundreds.
+fn most(number: u32) -> usize
+    ensures { λ r. ⌜ (0 < r) × (r ≤ 6000) ⌝ }
+{
+    if number % 10 == 9 { 6000 } else { 400 }
+}
+
+// Key, IV and message of a number, from the generator.
+fn numbered(number: u32) -> One
+    requires { ⌜ number < 400 ⌝ }
+    ensures { λ r. ⌜ (r .sealed ≤ 1) × (r .checked ≤ 1) × (r .opened ≤ 1) ⌝ }
+{
+    let seed = number * 2 + 1;
+    let random = crate::random::seeded(seed).next();
+    let n = random.below(most(number));
+    let mut key = [0u8; 16];
+    let after_key = fill(random, &mut key);
+    let mut iv = [0u8; 16];
+    let after_iv = fill(after_key, &mut iv);
+    let mut message = [0u8; 6000];
+    fill(after_iv, &mut message);
+    one_message(key, iv, seed, &message[0..n])
+}
+
+pub fn run() -> Agreed {
+    let mut sealed: usize = 0;
+    let mut checked: usize = 0;
+    let mut opened: usize = 0;
+    let mut tags = [0u8; 16];
+    let mut ends = [0u8; 16];
+    let mut number: u32 = 0;
+    while number < 400 {
+        let one = numbered(number);
+        sealed += one.sealed;
+        checked += one.checked;
+        opened += one.opened;
+        let tag = one.tag;
+        let more_tags = blocks::block::xor(tags, tag);
+        tags = more_tags;
+        let end = one.end;
+        let more_ends = blocks::block::xor(ends, end);
+        ends = more_ends;
+        number += 1;
+    }
+    Agreed {
+        sealed,
+        checked,
+        opened,
+        tags,
+        ends,
+    }
+}
+
+// The sums are those of bench/make-mode-vectors.
+pub fn sums(agreed: Agreed) -> usize {
+    let tags = block(b"6D3921BF9C6A9FFAF0954455D84455EE");
+    let ends = block(b"135AE7A00D0850F6D3D3E2421A827D73");
+    let tags_given = agreed.tags;
+    let ends_given = agreed.ends;
+    one_if(blocks::block::equal(tags_given, tags)) + one_if(blocks::block::equal(ends_given, ends))
+}

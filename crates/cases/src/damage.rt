@@ -1,0 +1,152 @@
+// A sealed record with each of its bits flipped in turn.
+ghost use mathlib.Core.Path.{_≡_};
+ghost use Prim.Native.Nat.{_≤_};
+ghost use lib.ListN.{length};
+use crate::bytes::flip;
+use crate::bytes::one_if;
+use crate::open_case::answers;
+use crate::paper;
+use mode::RecordAnswer;
+
+// The record of a message of 20 bytes: IV, two blocks, tag.
+fn sealed() -> [u8; 64] {
+    let mut out = [0u8; 64];
+    let key = paper::key();
+    let iv = paper::iv();
+    calls::seal::seal(&key, &iv, b"twenty bytes of list", &mut out);
+    out
+}
+
+// ---- opened
+
+// The record as it is gives the message.
+fn undamaged_opened() -> usize
+    ensures { λ r. ⌜ r ≤ 1 ⌝ }
+{
+    let key = paper::key();
+    let whole = sealed();
+    let mut out = [0u8; 96];
+    answers(&key, &whole, &mut out, 0, b"twenty bytes of list")
+}
+
+// With a bit flipped it gets 6, and the output is zero from end to end.
+fn refused_with(bit: usize) -> usize
+    ensures { λ r. ⌜ r ≤ 1 ⌝ }
+{
+    let key = paper::key();
+    let mut changed = sealed();
+    flip(&mut changed, bit / 8, 1 << (bit % 8));
+    let mut out = [0u8; 96];
+    answers(&key, &changed, &mut out, 6, b"")
+}
+
+pub fn opened() -> usize {
+    let mut agreed: usize = 0;
+    let mut bit: usize = 0;
+    while bit < 512 {
+        agreed += refused_with(bit);
+        bit += 1;
+    }
+    agreed
+}
+
+// ---- checked as two runs, joined and tested
+
+// The record of two blocks.
+fn checked(key: [u8; 16], iv: [u8; 16], c1: [u8; 16], c2: [u8; 16]) -> RecordAnswer {
+    let left = calls::run::check_run(&key, &iv, 0, &c1);
+    let right = calls::run::check_run(&key, &iv, 1, &c2);
+    left.run.join(right.run)
+}
+
+// What the test of a record's tag answers: 0, or a refusal.
+fn test(key: [u8; 16], sealed: &[u8]) -> u8
+    requires { ⌜ length (now sealed) ≡ 64 ⌝ }
+{
+    let iv = blocks::block::load(sealed, 0);
+    let c1 = blocks::block::load(sealed, 16);
+    let c2 = blocks::block::load(sealed, 32);
+    let tag = blocks::block::load(sealed, 48);
+    let joined = checked(key, iv, c1, c2);
+    calls::record::test(&key, &iv, joined.run, &tag)
+}
+
+fn undamaged_tested() -> usize
+    ensures { λ r. ⌜ r ≤ 1 ⌝ }
+{
+    let whole = sealed();
+    one_if(test(paper::key(), &whole) == 0)
+}
+
+// The record as it is, opened and tested.
+pub fn undamaged() -> usize {
+    undamaged_opened() + undamaged_tested()
+}
+
+fn fails_with(bit: usize) -> usize
+    ensures { λ r. ⌜ r ≤ 1 ⌝ }
+{
+    let mut changed = sealed();
+    flip(&mut changed, bit / 8, 1 << (bit % 8));
+    one_if(test(paper::key(), &changed) == 6)
+}
+
+pub fn tested() -> usize {
+    let mut agreed: usize = 0;
+    let mut bit: usize = 0;
+    while bit < 512 {
+        agreed += fails_with(bit);
+        bit += 1;
+    }
+    agreed
+}
+
+// ---- blocks moved, left out and added
+
+fn gets_6(sealed: &[u8]) -> usize
+    ensures { λ r. ⌜ r ≤ 1 ⌝ }
+{
+    let key = paper::key();
+    let mut out = [0u8; 96];
+    answers(&key, sealed, &mut out, 6, b"")
+}
+
+fn swapped() -> usize
+    ensures { λ r. ⌜ r ≤ 1 ⌝ }
+{
+    let whole = sealed();
+    let left = blocks::block::load(&whole, 16);
+    let right = blocks::block::load(&whole, 32);
+    let mut changed = sealed();
+    blocks::block::store(&mut changed, 16, right);
+    blocks::block::store(&mut changed, 32, left);
+    gets_6(&changed)
+}
+
+fn shortened() -> usize
+    ensures { λ r. ⌜ r ≤ 1 ⌝ }
+{
+    let whole = sealed();
+    let mut changed = [0u8; 48];
+    blocks::block::store(&mut changed, 0, blocks::block::load(&whole, 0));
+    blocks::block::store(&mut changed, 16, blocks::block::load(&whole, 16));
+    blocks::block::store(&mut changed, 32, blocks::block::load(&whole, 48));
+    gets_6(&changed)
+}
+
+fn lengthened() -> usize
+    ensures { λ r. ⌜ r ≤ 1 ⌝ }
+{
+    let whole = sealed();
+    let mut changed = [0u8; 80];
+    blocks::block::store(&mut changed, 0, blocks::block::load(&whole, 0));
+    blocks::block::store(&mut changed, 16, blocks::block::load(&whole, 16));
+    blocks::block::store(&mut changed, 32, blocks::block::load(&whole, 32));
+    blocks::block::store(&mut changed, 48, blocks::block::load(&whole, 32));
+    blocks::block::store(&mut changed, 64, blocks::block::load(&whole, 48));
+    gets_6(&changed)
+}
+
+pub fn rearranged() -> usize {
+    swapped() + shortened() + lengthened()
+}

@@ -1,0 +1,95 @@
+// Records that another program sealed (docs/CASES.md), a line each: key, IV, message and record in hexadecimal digits, a space or the
+// line's end after each. Line n has a message of n bytes.
+ghost use Prim.Native.Nat.{_+_, _*_, _/_, _<_, _≤_};
+ghost use lib.ListN.{length};
+use crate::bytes::one_if;
+use crate::bytes::same;
+use crate::bytes::written;
+use crate::hex::block_at;
+use crate::hex::bytes_at;
+
+// How many lines agreed, by what was tried.
+pub struct Agreed {
+    pub sealed: usize,
+    pub opened: usize,
+    pub tested: usize,
+}
+
+// Sealing the message gives the record.
+fn seals(key: [u8; 16], iv: [u8; 16], message: &[u8], sealed: &[u8]) -> usize
+    requires { ⌜ length (now sealed) ≤ 256 ⌝ }
+    ensures { λ r. ⌜ r ≤ 1 ⌝ }
+{
+    let mut out = [0u8; 256];
+    crate::random::noise(&mut out);
+    let w = calls::seal::seal(&key, &iv, message, &mut out);
+    let size = sealed.len();
+    one_if(written(w, 0, size, &out) && same(&out[0..size], sealed))
+}
+
+// Opening the record gives the message.
+fn opens(key: [u8; 16], message: &[u8], sealed: &[u8]) -> usize
+    requires { ⌜ length (now message) ≤ 256 ⌝ }
+    ensures { λ r. ⌜ r ≤ 1 ⌝ }
+{
+    let mut out = [0u8; 256];
+    crate::random::noise(&mut out);
+    let w = calls::open::open(&key, sealed, &mut out);
+    let size = message.len();
+    one_if(written(w, 0, size, &out) && same(&out[0..size], message))
+}
+
+// The record of the checked ciphertext passes the tag.
+fn tests(key: [u8; 16], iv: [u8; 16], sealed: &[u8]) -> usize
+    requires { ⌜ 48 ≤ length (now sealed) ⌝ }
+    ensures { λ r. ⌜ r ≤ 1 ⌝ }
+{
+    let stop = sealed.len() - 16;
+    let checked = calls::run::check_run(&key, &iv, 0, &sealed[16..stop]);
+    let tested = calls::record::test(&key, &iv, checked.run, &sealed[stop..]);
+    one_if(checked.refusal == 0 && tested == 0)
+}
+
+fn run_line(text: &[u8], at: usize, n: usize) -> Agreed
+    requires { ⌜ n < 128 ⌝ }
+    requires { ⌜ at + 164 + n * 2 + n / 16 * 32 ≤ length (now text) ⌝ }
+    ensures { λ r. ⌜ (r .sealed ≤ 1) × (r .opened ≤ 1) × (r .tested ≤ 1) ⌝ }
+{
+    let key = block_at(text, at);
+    let iv = block_at(text, at + 33);
+    let mut message = [0u8; 128];
+    bytes_at(text, at + 66, n, &mut message);
+    let size = n / 16 * 16 + 48;
+    let mut sealed = [0u8; 160];
+    bytes_at(text, at + 67 + n * 2, size, &mut sealed);
+    Agreed {
+        sealed: seals(key, iv, &message[0..n], &sealed[0..size]),
+        opened: opens(key, &message[0..n], &sealed[0..size]),
+        tested: tests(key, iv, &sealed[0..size]),
+    }
+}
+
+pub fn run(text: &[u8]) -> Agreed {
+    let mut sealed: usize = 0;
+    let mut opened: usize = 0;
+    let mut tested: usize = 0;
+    let mut at: usize = 0;
+    let mut n: usize = 0;
+    while n < 128 {
+        let next = at + 164 + n * 2 + n / 16 * 32;
+        if text.len() < next {
+            break;
+        }
+        let line = run_line(text, at, n);
+        sealed += line.sealed;
+        opened += line.opened;
+        tested += line.tested;
+        at = next;
+        n += 1;
+    }
+    Agreed {
+        sealed,
+        opened,
+        tested,
+    }
+}

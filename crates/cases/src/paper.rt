@@ -1,0 +1,221 @@
+// The vectors of the mode's paper, and its second rule over 4,000 blocks. Each function answers how many values agree.
+ghost use mathlib.Core.Path.{_≡_};
+ghost use Prim.Native.Nat.{_≤_};
+ghost use lib.ListN.{length};
+use crate::bytes::one_if;
+use crate::bytes::same;
+use crate::bytes::same_record;
+use crate::bytes::zero_from;
+use crate::hex::block;
+use mode::RunRecord;
+
+pub fn key() -> [u8; 16] {
+    block(b"000102030405060708090A0B0C0D0E0F")
+}
+
+pub fn iv() -> [u8; 16] {
+    block(b"0123456789ABCDEF0123456789ABCDEF")
+}
+
+// ---- values as printed
+
+// A middle run gives the ciphertext and the pre-authenticator, and checking the ciphertext gives the same record.
+fn run_gives(
+    iv: [u8; 16],
+    first: u32,
+    text: &[u8],
+    cipher: &[u8],
+    preauthenticator: [u8; 16],
+) -> usize
+    ensures { λ r. ⌜ r ≤ 3 ⌝ }
+{
+    let key = key();
+    let mut out = [0u8; 64];
+    crate::random::noise(&mut out);
+    let sealed = calls::run::seal_run(&key, &iv, first, false, text, &mut out);
+    let size = sealed.length;
+    if sealed.refusal != 0 {
+        return 0;
+    }
+    if 64 < size {
+        return 0;
+    }
+    let run = sealed.run;
+    let checked = calls::run::check_run(&key, &iv, first, cipher);
+    one_if(same(&out[0..size], cipher) && zero_from(&out, size))
+        + one_if(blocks::block::equal(run.preauthenticator, preauthenticator))
+        + one_if(checked.refusal == 0 && same_record(checked.run, run))
+}
+
+// Closing gives the tag, and testing the tag passes.
+fn tag_is(iv: [u8; 16], run: RunRecord, tag: [u8; 16]) -> usize
+    ensures { λ r. ⌜ r ≤ 2 ⌝ }
+{
+    let key = key();
+    let closed = calls::record::close(&key, &iv, run);
+    let tested = calls::record::test(&key, &iv, run, &tag);
+    one_if(closed.refusal == 0 && blocks::block::equal(closed.tag, tag)) + one_if(tested == 0)
+}
+
+fn record(first: u32, count: u32, preauthenticator: [u8; 16]) -> RunRecord {
+    RunRecord {
+        first,
+        count,
+        preauthenticator,
+    }
+}
+
+// The first vector: m1, t1, A1, c1 and the tag.
+pub fn first_vector() -> usize {
+    let m1 = block(b"00112233445566778899AABBCCDDEEFF");
+    let a1 = block(b"C31FDB743AA199CB78AA156AED162EB9");
+    let c1 = block(b"030F28E63B8A9C570D7FEF31940226F4");
+    let tag = block(b"CBBD199D075F7220957FD8205A233B9F");
+    run_gives(iv(), 0, &m1, &c1, a1) + tag_is(iv(), record(0, 1, a1), tag)
+}
+
+// The first two blocks of the second vector: t2 is the pre-authenticator of block 1 alone, and A2 that of both.
+pub fn second_vector() -> usize {
+    let m2 = block(b"030F28E63B8A9C570D7FEF31940226F4");
+    let t2 = block(b"E005EF3D83A7F60BD8486A7B15CC93DD");
+    let c2 = block(b"8C501ED50FBBECE46655493BF9AD5229");
+    let alone = run_gives(iv(), 1, &m2, &c2, t2);
+    let a1 = block(b"C31FDB743AA199CB78AA156AED162EB9");
+    let a2 = block(b"663A59D5F6E4C59D291C40AECFE0CE28");
+    let joined = record(0, 1, a1).join(record(1, 1, t2));
+    alone + one_if(joined.refusal == 0 && same_record(joined.run, record(0, 2, a2)))
+}
+
+// Both blocks in one run, and the tag over them, which the paper does not print.
+pub fn both_blocks() -> usize {
+    let mut text = [0u8; 48];
+    blocks::block::store(&mut text, 0, block(b"00112233445566778899AABBCCDDEEFF"));
+    blocks::block::store(&mut text, 16, block(b"030F28E63B8A9C570D7FEF31940226F4"));
+    blocks::block::store(&mut text, 32, block(b"8C501ED50FBBECE46655493BF9AD5229"));
+    let a2 = block(b"663A59D5F6E4C59D291C40AECFE0CE28");
+    let tag = block(b"9015A1139FA7EAF7F5AB5D96B9B76820");
+    let all = &text[..];
+    run_gives(iv(), 0, &all[0..32], &all[16..], a2) + tag_is(iv(), record(0, 2, a2), tag)
+}
+
+// An IV under which step 1 comes to zero: the start mask is the key. The values are those of bench/make-mode-vectors.
+pub fn zero_start_mask() -> usize {
+    let iv = block(b"7756E165ED666861921F273EF920B016");
+    let m1 = block(b"00112233445566778899AABBCCDDEEFF");
+    let a1 = block(b"E5FE92CAC7338436A07B82BFD365D63F");
+    let c1 = block(b"76D1607EA5D796446628AEA473C79AB8");
+    let tag = block(b"2AA8554F081C1F4320E44EBC68845C2C");
+    run_gives(iv, 0, &m1, &c1, a1) + tag_is(iv, record(0, 1, a1), tag)
+}
+
+// ---- masks
+
+fn jumped(mask: [u8; 16], distance: u32) -> [u8; 16] {
+    let mut out = [0u8; 16];
+    calls::mask::jump(&mask, distance, &mut out);
+    out
+}
+
+// 249 jumps of 4,000 blocks.
+fn jumped_far(mask: [u8; 16]) -> [u8; 16] {
+    let mut m = mask;
+    let mut left: usize = 249;
+    while left > 0 {
+        let next = jumped(m, 4000);
+        m = next;
+        left -= 1;
+    }
+    m
+}
+
+// R2, R1,000,000 and R1,000,001 from R1.
+pub fn masks() -> usize {
+    let r1 = block(b"FDED29920913A3DA8C9ECA2F0FD434AA");
+    let r2 = block(b"FBDA5324122747B5193D945E1FA869D3");
+    let last = block(b"8F3461728ECD3A7B3D3CC89808967071");
+    let after = block(b"1E68C2E51D9A74F67A799130112CE065");
+    one_if(blocks::block::equal(jumped(r1, 1), r2))
+        + one_if(blocks::block::equal(jumped(jumped_far(r1), 3999), last))
+        + one_if(blocks::block::equal(jumped(last, 1), after))
+}
+
+// Document 01's jumps of 1: by 0, by 127 and by 128.
+pub fn jumps_of_one() -> usize {
+    let one = block(b"00000000000000000000000000000001");
+    let top = block(b"80000000000000000000000000000000");
+    let reduced = block(b"00000000000000000000000000000087");
+    one_if(blocks::block::equal(jumped(one, 0), one))
+        + one_if(blocks::block::equal(jumped(one, 127), top))
+        + one_if(blocks::block::equal(jumped(one, 128), reduced))
+}
+
+// ---- the second vector's rule over 4,000 blocks
+
+// The last ciphertext block, which is the next block of the message, and the record of all blocks so far.
+struct Link {
+    block: [u8; 16],
+    run: RunRecord,
+}
+
+// One block sealed and joined to those before it. Where a call is refused, the block is zero.
+fn next_link(before: Link, number: u32) -> Link {
+    let key = key();
+    let iv = iv();
+    let block = before.block;
+    let left = before.run;
+    let mut out = [0u8; 16];
+    let sealed = calls::run::seal_run(&key, &iv, number, false, &block, &mut out);
+    let right = sealed.run;
+    let joined = left.join(right);
+    let run = joined.run;
+    Link { block: out, run }
+}
+
+// The 4,001 blocks m1, c1, c2, .. in order, and the record of all.
+fn chain(text: &mut [u8]) -> RunRecord
+    requires { ⌜ length (now text) ≡ 64016 ⌝ }
+{
+    let m1 = block(b"00112233445566778899AABBCCDDEEFF");
+    blocks::block::store(text, 0, m1);
+    let mut last = Link {
+        block: m1,
+        run: record(0, 0, [0u8; 16]),
+    };
+    let mut n: u32 = 0;
+    while n < 4000 {
+        let next = next_link(last, n);
+        last = next;
+        n += 1;
+        let block = last.block;
+        blocks::block::store(text, n as usize * 16, block);
+    }
+    last.run
+}
+
+// All in one run, and checked in one run, comes to the same ciphertext and record.
+fn in_one_run(message: &[u8], cipher: &[u8], run: RunRecord) -> usize
+    ensures { λ r. ⌜ r ≤ 2 ⌝ }
+{
+    let key = key();
+    let iv = iv();
+    let mut out = [0u8; 64000];
+    crate::random::noise(&mut out);
+    let sealed = calls::run::seal_run(&key, &iv, 0, false, message, &mut out);
+    let checked = calls::run::check_run(&key, &iv, 0, cipher);
+    one_if(sealed.refusal == 0 && same(&out, cipher) && same_record(sealed.run, run))
+        + one_if(checked.refusal == 0 && same_record(checked.run, run))
+}
+
+// The last ciphertext block, the pre-authenticator and the tag are those of bench/make-mode-vectors.
+pub fn long_chain() -> usize {
+    let mut text = [0u8; 64016];
+    let run = chain(&mut text);
+    let last = block(b"59DD4F1F25B18419F42BC2093E33E8CF");
+    let preauthenticator = block(b"867A5B013621ADB2B7E6877B52CE701D");
+    let tag = block(b"0F767B73662D903D8D456D947D7BEFF2");
+    let all = &text[..];
+    one_if(same(&all[64000..], &last))
+        + one_if(same_record(run, record(0, 4000, preauthenticator)))
+        + tag_is(iv(), run, tag)
+        + in_one_run(&all[0..64000], &all[16..], run)
+}
