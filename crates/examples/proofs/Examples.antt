@@ -14,7 +14,7 @@ use Rattle.mode.specs.Table.{given, decide, limit, not16, beyond, anyBeyond, ap
 use Rattle.mode.specs.Calls.{blocksOfRun, outcomeBy, joined, joinTwo, jumpMask}
 use Rattle.mode.proofs.Blocks.{count-last}
 use Rattle.mode.proofs.Records.{joined-empty}
-use Rattle.cards.specs.Cards.{result, AllAgree, EmptyNeighbour, PaddedCount}
+use Rattle.examples.specs.Examples.{result, AllAgree, EmptyNeighbour, PaddedCount}
 
 pub all-agree : AllAgree
 unfolding result jumpMask outcomeBy decide not16 jump timesX shiftLeft fallen reduction xorBytes sbox affine inverse power mul times step blocksOfRun blocksOf firstBlocks padded joinTwo anyBeyond beyond apart joined
