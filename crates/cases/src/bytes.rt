@@ -1,6 +1,8 @@
 // What a case compares.
 ghost use Prim.Native.Nat.{_≤_};
+use mode::RecordAnswer;
 use mode::RunRecord;
+use mode::TagAnswer;
 use mode::Written;
 
 // One case, or none.
@@ -10,13 +12,16 @@ pub fn one_if(agreed: bool) -> usize
     if agreed { 1 } else { 0 }
 }
 
-pub fn same(a: &[u8], b: &[u8]) -> bool {
-    if a.len() != b.len() {
+// ---- bytes
+
+// Whether a slice begins with other bytes.
+pub fn starts_with(s: &[u8], front: &[u8]) -> bool {
+    if s.len() < front.len() {
         return false;
     }
     let mut i: usize = 0;
-    while i < a.len() {
-        if a[i] != b[i] {
+    while i < front.len() {
+        if s[i] != front[i] {
             return false;
         }
         i += 1;
@@ -39,9 +44,23 @@ pub fn zero_from(s: &[u8], from: usize) -> bool {
     true
 }
 
+// Flips bits of a byte.
+pub fn flip(bytes: &mut [u8], at: usize, bits: u8) {
+    if at < bytes.len() {
+        bytes[at] = bytes[at] ^ bits;
+    }
+}
+
+// ---- answers
+
 // The refusal and the length are as they should be, and the lent output is zero beyond the answer.
 pub fn written(w: Written, refusal: u8, length: usize, out: &[u8]) -> bool {
     w.refusal == refusal && w.length == length && zero_from(out, length)
+}
+
+// The same, and the answer is as it should be. Beside a refusal it is empty.
+pub fn answered(w: Written, refusal: u8, answer: &[u8], out: &[u8]) -> bool {
+    written(w, refusal, answer.len(), out) && starts_with(out, answer)
 }
 
 pub fn same_record(a: RunRecord, b: RunRecord) -> bool {
@@ -55,9 +74,11 @@ pub fn blank(run: RunRecord) -> bool {
     same_record(run, mode::refused(0).run)
 }
 
-// Flips bits of a byte.
-pub fn flip(bytes: &mut [u8], at: usize, bits: u8) {
-    if at < bytes.len() {
-        bytes[at] = bytes[at] ^ bits;
-    }
+pub fn gives_record(a: RecordAnswer, run: RunRecord) -> bool {
+    a.refusal == 0 && same_record(a.run, run)
+}
+
+pub fn gives_tag(a: TagAnswer, tag: [u8; 16]) -> bool {
+    let given = a.tag;
+    a.refusal == 0 && blocks::block::equal(given, tag)
 }

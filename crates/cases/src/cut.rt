@@ -172,7 +172,7 @@ fn seal_each(key: [u8; 16], iv: [u8; 16], cut: Cut, message: &[u8], out: &mut [u
         let a = seal_span(key, iv, span_of(cut, i, size, true), message, out);
         let run = a.run;
         records[i] = run;
-        taken = taken && a.refusal == 0;
+        taken = taken & (a.refusal == 0);
         done += 1;
     }
     Records { taken, records }
@@ -190,7 +190,7 @@ fn check_each(key: [u8; 16], iv: [u8; 16], cut: Cut, text: &[u8]) -> Records {
         let a = check_span(key, iv, span_of(cut, i, size, false), text);
         let run = a.run;
         records[i] = run;
-        taken = taken && a.refusal == 0;
+        taken = taken & (a.refusal == 0);
         done += 1;
     }
     Records { taken, records }

@@ -1,9 +1,10 @@
 // Seeded messages: each is sealed whole, sealed in runs and checked in runs, and opened, and all has to come to the same.
 ghost use Prim.Native.Nat.{_<_, _≤_};
 ghost use lib.ListN.{length};
+use crate::bytes::gives_record;
+use crate::bytes::gives_tag;
 use crate::bytes::one_if;
-use crate::bytes::same;
-use crate::bytes::same_record;
+use crate::bytes::starts_with;
 use crate::bytes::written;
 use crate::cut::check_in_runs;
 use crate::cut::cut_of;
@@ -11,6 +12,7 @@ use crate::cut::seal_in_runs;
 use crate::hex::block;
 use crate::random::fill;
 use crate::random::noise;
+use mode::RecordAnswer;
 use mode::RunRecord;
 
 // How many messages agreed, by what was tried; the exclusive or of the tags, and of the last ciphertext blocks, of whole sealing.
@@ -36,23 +38,20 @@ fn seals(
     ensures { λ r. ⌜ r ≤ 1 ⌝ }
 {
     let mut out = [0u8; 6144];
-    let size = text.len();
-    if 6144 < size {
-        return 0;
-    }
     if 6144 < message.len() {
         return 0;
     }
     let whole = cut_of(seed, message.len() / 16);
     let joined = seal_in_runs(key, iv, whole, message, &mut out);
-    let closed = calls::record::close(&key, &iv, joined.run);
-    let closing = closed.tag;
-    one_if(
-        joined.refusal == 0
-            && closed.refusal == 0
-            && same(&out[0..size], text)
-            && blocks::block::equal(closing, tag),
-    )
+    one_if(starts_with(&out, text) & closes(key, iv, joined, tag))
+}
+
+// The record of all runs closes into the tag.
+fn closes(key: [u8; 16], iv: [u8; 16], joined: RecordAnswer, tag: [u8; 16]) -> bool {
+    if joined.refusal != 0 {
+        return false;
+    }
+    gives_tag(calls::record::close(&key, &iv, joined.run), tag)
 }
 
 fn passes(key: [u8; 16], iv: [u8; 16], run: RunRecord, tag: [u8; 16]) -> bool {
@@ -68,12 +67,8 @@ fn checks(key: [u8; 16], iv: [u8; 16], seed: u32, text: &[u8], tag: [u8; 16]) ->
     }
     let joined = check_in_runs(key, iv, cut_of(seed, text.len() / 16), text);
     let whole = calls::run::check_run(&key, &iv, 0, text);
-    one_if(
-        joined.refusal == 0
-            && whole.refusal == 0
-            && same_record(joined.run, whole.run)
-            && passes(key, iv, joined.run, tag),
-    )
+    let run = whole.run;
+    one_if((whole.refusal == 0) & gives_record(joined, run) & passes(key, iv, run, tag))
 }
 
 // What one message gave.

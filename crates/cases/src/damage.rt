@@ -1,6 +1,6 @@
 // A sealed record with each of its bits flipped in turn.
 ghost use mathlib.Core.Path.{_≡_};
-ghost use Prim.Native.Nat.{_≤_};
+ghost use Prim.Native.Nat.{_+_, _≤_};
 ghost use lib.ListN.{length};
 use crate::bytes::flip;
 use crate::bytes::one_if;
@@ -111,39 +111,44 @@ fn gets_6(sealed: &[u8]) -> usize
     answers(&key, sealed, &mut out, 6, b"")
 }
 
+// A block of the record, by its offset, into another.
+fn put(out: &mut [u8], to: usize, from: usize)
+    requires { ⌜ to + 16 ≤ length (now out) ⌝ }
+    requires { ⌜ from + 16 ≤ 64 ⌝ }
+{
+    let whole = sealed();
+    let block = blocks::block::load(&whole, from);
+    blocks::block::store(out, to, block);
+}
+
 fn swapped() -> usize
     ensures { λ r. ⌜ r ≤ 1 ⌝ }
 {
-    let whole = sealed();
-    let left = blocks::block::load(&whole, 16);
-    let right = blocks::block::load(&whole, 32);
     let mut changed = sealed();
-    blocks::block::store(&mut changed, 16, right);
-    blocks::block::store(&mut changed, 32, left);
+    put(&mut changed, 16, 32);
+    put(&mut changed, 32, 16);
     gets_6(&changed)
 }
 
 fn shortened() -> usize
     ensures { λ r. ⌜ r ≤ 1 ⌝ }
 {
-    let whole = sealed();
     let mut changed = [0u8; 48];
-    blocks::block::store(&mut changed, 0, blocks::block::load(&whole, 0));
-    blocks::block::store(&mut changed, 16, blocks::block::load(&whole, 16));
-    blocks::block::store(&mut changed, 32, blocks::block::load(&whole, 48));
+    put(&mut changed, 0, 0);
+    put(&mut changed, 16, 16);
+    put(&mut changed, 32, 48);
     gets_6(&changed)
 }
 
 fn lengthened() -> usize
     ensures { λ r. ⌜ r ≤ 1 ⌝ }
 {
-    let whole = sealed();
     let mut changed = [0u8; 80];
-    blocks::block::store(&mut changed, 0, blocks::block::load(&whole, 0));
-    blocks::block::store(&mut changed, 16, blocks::block::load(&whole, 16));
-    blocks::block::store(&mut changed, 32, blocks::block::load(&whole, 32));
-    blocks::block::store(&mut changed, 48, blocks::block::load(&whole, 32));
-    blocks::block::store(&mut changed, 64, blocks::block::load(&whole, 48));
+    put(&mut changed, 0, 0);
+    put(&mut changed, 16, 16);
+    put(&mut changed, 32, 32);
+    put(&mut changed, 48, 32);
+    put(&mut changed, 64, 48);
     gets_6(&changed)
 }
 

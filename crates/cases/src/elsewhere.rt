@@ -2,9 +2,8 @@
 // line's end after each. Line n has a message of n bytes.
 ghost use Prim.Native.Nat.{_+_, _*_, _/_, _<_, _≤_};
 ghost use lib.ListN.{length};
+use crate::bytes::answered;
 use crate::bytes::one_if;
-use crate::bytes::same;
-use crate::bytes::written;
 use crate::hex::block_at;
 use crate::hex::bytes_at;
 
@@ -17,26 +16,22 @@ pub struct Agreed {
 
 // Sealing the message gives the record.
 fn seals(key: [u8; 16], iv: [u8; 16], message: &[u8], sealed: &[u8]) -> usize
-    requires { ⌜ length (now sealed) ≤ 256 ⌝ }
     ensures { λ r. ⌜ r ≤ 1 ⌝ }
 {
     let mut out = [0u8; 256];
     crate::random::noise(&mut out);
     let w = calls::seal::seal(&key, &iv, message, &mut out);
-    let size = sealed.len();
-    one_if(written(w, 0, size, &out) && same(&out[0..size], sealed))
+    one_if(answered(w, 0, sealed, &out))
 }
 
 // Opening the record gives the message.
 fn opens(key: [u8; 16], message: &[u8], sealed: &[u8]) -> usize
-    requires { ⌜ length (now message) ≤ 256 ⌝ }
     ensures { λ r. ⌜ r ≤ 1 ⌝ }
 {
     let mut out = [0u8; 256];
     crate::random::noise(&mut out);
     let w = calls::open::open(&key, sealed, &mut out);
-    let size = message.len();
-    one_if(written(w, 0, size, &out) && same(&out[0..size], message))
+    one_if(answered(w, 0, message, &out))
 }
 
 // The record of the checked ciphertext passes the tag.
@@ -47,7 +42,18 @@ fn tests(key: [u8; 16], iv: [u8; 16], sealed: &[u8]) -> usize
     let stop = sealed.len() - 16;
     let checked = calls::run::check_run(&key, &iv, 0, &sealed[16..stop]);
     let tested = calls::record::test(&key, &iv, checked.run, &sealed[stop..]);
-    one_if(checked.refusal == 0 && tested == 0)
+    one_if((checked.refusal == 0) & (tested == 0))
+}
+
+fn compared(key: [u8; 16], iv: [u8; 16], message: &[u8], sealed: &[u8]) -> Agreed
+    requires { ⌜ 48 ≤ length (now sealed) ⌝ }
+    ensures { λ r. ⌜ (r .sealed ≤ 1) × (r .opened ≤ 1) × (r .tested ≤ 1) ⌝ }
+{
+    Agreed {
+        sealed: seals(key, iv, message, sealed),
+        opened: opens(key, message, sealed),
+        tested: tests(key, iv, sealed),
+    }
 }
 
 fn run_line(text: &[u8], at: usize, n: usize) -> Agreed
@@ -62,11 +68,7 @@ fn run_line(text: &[u8], at: usize, n: usize) -> Agreed
     let size = n / 16 * 16 + 48;
     let mut sealed = [0u8; 160];
     bytes_at(text, at + 67 + n * 2, size, &mut sealed);
-    Agreed {
-        sealed: seals(key, iv, &message[0..n], &sealed[0..size]),
-        opened: opens(key, &message[0..n], &sealed[0..size]),
-        tested: tests(key, iv, &sealed[0..size]),
-    }
+    compared(key, iv, &message[0..n], &sealed[0..size])
 }
 
 pub fn run(text: &[u8]) -> Agreed {

@@ -1,11 +1,11 @@
 // One case of opening: a record and a lent output, and what it gets.
 ghost use Prim.Native.Nat.{_≤_};
+use crate::bytes::answered;
 use crate::bytes::flip;
 use crate::bytes::one_if;
-use crate::bytes::same;
-use crate::bytes::written;
 use crate::paper;
 use crate::random::noise;
+use mode::TagAnswer;
 
 // The answer in an output that held noise: a message, or a refusal where the message is none.
 pub fn answers(key: &[u8], sealed: &[u8], out: &mut [u8], refusal: u8, message: &[u8]) -> usize
@@ -13,11 +13,7 @@ pub fn answers(key: &[u8], sealed: &[u8], out: &mut [u8], refusal: u8, message: 
 {
     noise(out);
     let w = calls::open::open(key, sealed, out);
-    let size = message.len();
-    if out.len() < size {
-        return 0;
-    }
-    one_if(written(w, refusal, size, out) && same(&out[0..size], message))
+    one_if(answered(w, refusal, message, out))
 }
 
 // A record of noise, which no tag fits.
@@ -103,10 +99,16 @@ fn flip_last(asked: bool, bytes: &mut [u8], size: usize) {
 
 // ---- records whose last block is not padded
 
-// The IV, the ciphertext of whole blocks through a middle run, and the closing tag. The answer is the record's length, or 0.
-fn put_together(text: &[u8], sealed: &mut [u8]) -> usize {
+// Whole blocks through a middle run, and the tag of its record.
+fn seal_blocks(text: &[u8], out: &mut [u8]) -> TagAnswer {
     let key = paper::key();
     let iv = paper::iv();
+    let run = calls::run::seal_run(&key, &iv, 0, false, text, out).run;
+    calls::record::close(&key, &iv, run)
+}
+
+// The IV, the ciphertext of whole blocks through a middle run, and the closing tag. The answer is the record's length, or 0.
+fn put_together(text: &[u8], sealed: &mut [u8]) -> usize {
     if sealed.len() < 32 {
         return 0;
     }
@@ -115,10 +117,9 @@ fn put_together(text: &[u8], sealed: &mut [u8]) -> usize {
     }
     let stop = text.len() + 16;
     let size = text.len() + 32;
-    blocks::block::store(sealed, 0, iv);
-    let run = calls::run::seal_run(&key, &iv, 0, false, text, &mut sealed[16..stop]);
-    let closed = calls::record::close(&key, &iv, run.run);
-    if run.refusal != 0 || closed.refusal != 0 {
+    blocks::block::store(sealed, 0, paper::iv());
+    let closed = seal_blocks(text, &mut sealed[16..stop]);
+    if closed.refusal != 0 {
         return 0;
     }
     let tag = closed.tag;

@@ -2,12 +2,14 @@
 ghost use mathlib.Core.Path.{_≡_};
 ghost use Prim.Native.Nat.{_≤_};
 ghost use lib.ListN.{length};
+use crate::bytes::answered;
+use crate::bytes::gives_record;
+use crate::bytes::gives_tag;
 use crate::bytes::one_if;
-use crate::bytes::same;
 use crate::bytes::same_record;
-use crate::bytes::zero_from;
 use crate::hex::block;
 use mode::RunRecord;
+use mode::Written;
 
 pub fn key() -> [u8; 16] {
     block(b"000102030405060708090A0B0C0D0E0F")
@@ -19,32 +21,33 @@ pub fn iv() -> [u8; 16] {
 
 // ---- values as printed
 
-// A middle run gives the ciphertext and the pre-authenticator, and checking the ciphertext gives the same record.
-fn run_gives(
-    iv: [u8; 16],
-    first: u32,
-    text: &[u8],
-    cipher: &[u8],
-    preauthenticator: [u8; 16],
-) -> usize
-    ensures { λ r. ⌜ r ≤ 3 ⌝ }
+// A middle run gives the ciphertext and the record.
+fn seals(iv: [u8; 16], text: &[u8], cipher: &[u8], run: RunRecord) -> usize
+    ensures { λ r. ⌜ r ≤ 2 ⌝ }
 {
     let key = key();
-    let mut out = [0u8; 64];
+    let mut out = [0u8; 65536];
     crate::random::noise(&mut out);
-    let sealed = calls::run::seal_run(&key, &iv, first, false, text, &mut out);
-    let size = sealed.length;
-    if sealed.refusal != 0 {
-        return 0;
-    }
-    if 64 < size {
-        return 0;
-    }
-    let run = sealed.run;
-    let checked = calls::run::check_run(&key, &iv, first, cipher);
-    one_if(same(&out[0..size], cipher) && zero_from(&out, size))
-        + one_if(blocks::block::equal(run.preauthenticator, preauthenticator))
-        + one_if(checked.refusal == 0 && same_record(checked.run, run))
+    let a = calls::run::seal_run(&key, &iv, run.first, false, text, &mut out);
+    let w = Written {
+        refusal: a.refusal,
+        length: a.length,
+    };
+    one_if(answered(w, 0, cipher, &out)) + one_if(same_record(a.run, run))
+}
+
+// Checking the ciphertext gives the record.
+fn checks(iv: [u8; 16], cipher: &[u8], run: RunRecord) -> usize
+    ensures { λ r. ⌜ r ≤ 1 ⌝ }
+{
+    let key = key();
+    one_if(gives_record(calls::run::check_run(&key, &iv, run.first, cipher), run))
+}
+
+fn run_gives(iv: [u8; 16], text: &[u8], cipher: &[u8], run: RunRecord) -> usize
+    ensures { λ r. ⌜ r ≤ 3 ⌝ }
+{
+    seals(iv, text, cipher, run) + checks(iv, cipher, run)
 }
 
 // Closing gives the tag, and testing the tag passes.
@@ -54,7 +57,7 @@ fn tag_is(iv: [u8; 16], run: RunRecord, tag: [u8; 16]) -> usize
     let key = key();
     let closed = calls::record::close(&key, &iv, run);
     let tested = calls::record::test(&key, &iv, run, &tag);
-    one_if(closed.refusal == 0 && blocks::block::equal(closed.tag, tag)) + one_if(tested == 0)
+    one_if(gives_tag(closed, tag)) + one_if(tested == 0)
 }
 
 fn record(first: u32, count: u32, preauthenticator: [u8; 16]) -> RunRecord {
@@ -71,7 +74,7 @@ pub fn first_vector() -> usize {
     let a1 = block(b"C31FDB743AA199CB78AA156AED162EB9");
     let c1 = block(b"030F28E63B8A9C570D7FEF31940226F4");
     let tag = block(b"CBBD199D075F7220957FD8205A233B9F");
-    run_gives(iv(), 0, &m1, &c1, a1) + tag_is(iv(), record(0, 1, a1), tag)
+    run_gives(iv(), &m1, &c1, record(0, 1, a1)) + tag_is(iv(), record(0, 1, a1), tag)
 }
 
 // The first two blocks of the second vector: t2 is the pre-authenticator of block 1 alone, and A2 that of both.
@@ -79,11 +82,11 @@ pub fn second_vector() -> usize {
     let m2 = block(b"030F28E63B8A9C570D7FEF31940226F4");
     let t2 = block(b"E005EF3D83A7F60BD8486A7B15CC93DD");
     let c2 = block(b"8C501ED50FBBECE46655493BF9AD5229");
-    let alone = run_gives(iv(), 1, &m2, &c2, t2);
+    let alone = run_gives(iv(), &m2, &c2, record(1, 1, t2));
     let a1 = block(b"C31FDB743AA199CB78AA156AED162EB9");
     let a2 = block(b"663A59D5F6E4C59D291C40AECFE0CE28");
     let joined = record(0, 1, a1).join(record(1, 1, t2));
-    alone + one_if(joined.refusal == 0 && same_record(joined.run, record(0, 2, a2)))
+    alone + one_if(gives_record(joined, record(0, 2, a2)))
 }
 
 // Both blocks in one run, and the tag over them, which the paper does not print.
@@ -95,7 +98,7 @@ pub fn both_blocks() -> usize {
     let a2 = block(b"663A59D5F6E4C59D291C40AECFE0CE28");
     let tag = block(b"9015A1139FA7EAF7F5AB5D96B9B76820");
     let all = &text[..];
-    run_gives(iv(), 0, &all[0..32], &all[16..], a2) + tag_is(iv(), record(0, 2, a2), tag)
+    run_gives(iv(), &all[0..32], &all[16..], record(0, 2, a2)) + tag_is(iv(), record(0, 2, a2), tag)
 }
 
 // An IV under which step 1 comes to zero: the start mask is the key. The values are those of bench/make-mode-vectors.
@@ -105,7 +108,7 @@ pub fn zero_start_mask() -> usize {
     let a1 = block(b"E5FE92CAC7338436A07B82BFD365D63F");
     let c1 = block(b"76D1607EA5D796446628AEA473C79AB8");
     let tag = block(b"2AA8554F081C1F4320E44EBC68845C2C");
-    run_gives(iv, 0, &m1, &c1, a1) + tag_is(iv, record(0, 1, a1), tag)
+    run_gives(iv, &m1, &c1, record(0, 1, a1)) + tag_is(iv, record(0, 1, a1), tag)
 }
 
 // ---- masks
@@ -192,30 +195,29 @@ fn chain(text: &mut [u8]) -> RunRecord
     last.run
 }
 
-// All in one run, and checked in one run, comes to the same ciphertext and record.
-fn in_one_run(message: &[u8], cipher: &[u8], run: RunRecord) -> usize
-    ensures { λ r. ⌜ r ≤ 2 ⌝ }
+// All in one run comes to the same ciphertext and record.
+fn in_one_run(text: &[u8], run: RunRecord) -> usize
+    requires { ⌜ length (now text) ≡ 64016 ⌝ }
+    ensures { λ r. ⌜ r ≤ 3 ⌝ }
 {
-    let key = key();
-    let iv = iv();
-    let mut out = [0u8; 64000];
-    crate::random::noise(&mut out);
-    let sealed = calls::run::seal_run(&key, &iv, 0, false, message, &mut out);
-    let checked = calls::run::check_run(&key, &iv, 0, cipher);
-    one_if(sealed.refusal == 0 && same(&out, cipher) && same_record(sealed.run, run))
-        + one_if(checked.refusal == 0 && same_record(checked.run, run))
+    run_gives(iv(), &text[0..64000], &text[16..], run)
 }
 
 // The last ciphertext block, the pre-authenticator and the tag are those of bench/make-mode-vectors.
-pub fn long_chain() -> usize {
-    let mut text = [0u8; 64016];
-    let run = chain(&mut text);
+fn as_elsewhere(text: &[u8], run: RunRecord) -> usize
+    requires { ⌜ length (now text) ≡ 64016 ⌝ }
+    ensures { λ r. ⌜ r ≤ 4 ⌝ }
+{
     let last = block(b"59DD4F1F25B18419F42BC2093E33E8CF");
     let preauthenticator = block(b"867A5B013621ADB2B7E6877B52CE701D");
     let tag = block(b"0F767B73662D903D8D456D947D7BEFF2");
-    let all = &text[..];
-    one_if(same(&all[64000..], &last))
+    one_if(blocks::block::equal(blocks::block::load(text, 64000), last))
         + one_if(same_record(run, record(0, 4000, preauthenticator)))
         + tag_is(iv(), run, tag)
-        + in_one_run(&all[0..64000], &all[16..], run)
+}
+
+pub fn long_chain() -> usize {
+    let mut text = [0u8; 64016];
+    let run = chain(&mut text);
+    as_elsewhere(&text, run) + in_one_run(&text, run)
 }

@@ -2,9 +2,8 @@
 ghost use Prim.Native.Nat.{_≤_};
 use crate::bytes::blank;
 use crate::bytes::flip;
+use crate::bytes::gives_record;
 use crate::bytes::one_if;
-use crate::bytes::same_record;
-use crate::bytes::zero_from;
 use crate::hex::block;
 use crate::paper;
 use mode::RunRecord;
@@ -37,7 +36,7 @@ pub fn join_refused(
     ensures { λ r. ⌜ r ≤ 1 ⌝ }
 {
     let a = made(first, count).join(made(right_first, right_count));
-    one_if(a.refusal == refusal && blank(a.run))
+    one_if((a.refusal == refusal) & blank(a.run))
 }
 
 pub fn joined(first: u32, count: u32, right_first: u32, right_count: u32) -> usize
@@ -46,7 +45,7 @@ pub fn joined(first: u32, count: u32, right_first: u32, right_count: u32) -> usi
     let a = made(first, count).join(made(right_first, right_count));
     let run = a.run;
     let all = count as u64 + right_count as u64;
-    one_if(a.refusal == 0 && run.first == first && run.count as u64 == all)
+    one_if((a.refusal == 0) & (run.first == first) & (run.count as u64 == all))
 }
 
 // ---- the join's formula
@@ -55,8 +54,7 @@ pub fn joined(first: u32, count: u32, right_first: u32, right_count: u32) -> usi
 fn join_gives(left: RunRecord, right: RunRecord, all: RunRecord) -> usize
     ensures { λ r. ⌜ r ≤ 1 ⌝ }
 {
-    let a = left.join(right);
-    one_if(a.refusal == 0 && same_record(a.run, all))
+    one_if(gives_record(left.join(right), all))
 }
 
 // An empty neighbour whose pre-authenticator is zero changes nothing, on the right or on the left.
@@ -99,7 +97,7 @@ pub fn close_refused(key: usize, iv: usize, first: u32, count: u32, refusal: u8)
     let ivs = lengthened(paper::iv());
     let a = calls::record::close(&keys[0..key], &ivs[0..iv], made(first, count));
     let tag = a.tag;
-    one_if(a.refusal == refusal && zero_from(&tag, 0))
+    one_if((a.refusal == refusal) & blocks::block::equal(tag, [0u8; 16]))
 }
 
 pub fn closed(count: u32) -> usize

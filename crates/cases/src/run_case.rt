@@ -3,9 +3,10 @@ ghost use Prim.Native.Nat.{_≤_};
 ghost use lib.ListN.{length};
 use crate::bytes::blank;
 use crate::bytes::one_if;
-use crate::bytes::zero_from;
+use crate::bytes::written;
 use crate::random::noise;
 use mode::RunRecord;
+use mode::Written;
 
 // The record's numbers; a blank record beside a refusal.
 fn as_expected(run: RunRecord, refusal: u8, first: u32, count: u32) -> bool {
@@ -43,12 +44,11 @@ fn answers(
         out,
     );
     let size = count as usize * 16;
-    one_if(
-        a.refusal == refusal
-            && a.length == size
-            && as_expected(a.run, refusal, first, count)
-            && zero_from(out, size),
-    )
+    let w = Written {
+        refusal: a.refusal,
+        length: a.length,
+    };
+    one_if(written(w, refusal, size, out) & as_expected(a.run, refusal, first, count))
 }
 
 // A run of `text` bytes in an output of `room` bytes gets a refusal, or `count` blocks.
@@ -146,7 +146,7 @@ fn check_answers(key: usize, iv: usize, first: u32, text: usize, refusal: u8, co
     noise(&mut bytes);
     let all = &bytes[..];
     let a = calls::run::check_run(&all[0..key], &all[0..iv], first, &all[0..text]);
-    one_if(a.refusal == refusal && as_expected(a.run, refusal, first, count))
+    one_if((a.refusal == refusal) & as_expected(a.run, refusal, first, count))
 }
 
 pub fn check_refused(key: usize, iv: usize, first: u32, text: usize, refusal: u8) -> usize

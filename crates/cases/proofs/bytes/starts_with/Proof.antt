@@ -2,14 +2,14 @@
 use borrow.Author.Needs.{needs}
 use Prim.Native.Nat.{_≤_, _-_}
 use lib.ListN.{length}
-use Rattle.cases.proofs.bytes.same.Statement.{statement}
-use Rattle.cases.proofs.bytes.same.Tie as tie
+use Rattle.cases.proofs.bytes.starts_with.Statement.{statement}
+use Rattle.cases.proofs.bytes.starts_with.Tie as tie
 
 abbrev Inv-loop : tie.InvT-loop
-Inv-loop a b i₀ i = i ≤ length a
+Inv-loop s front i₀ i = i ≤ length front
 
 abbrev μ-loop : tie.MeasureT-loop
-μ-loop a b i₀ i = length a - i
+μ-loop s front i₀ i = length front - i
 
 returns : tie.Need-returns Inv-loop μ-loop
 returns c = search needs
@@ -38,8 +38,8 @@ loop-again c = search needs
 returns-3 : tie.Need-returns-3 Inv-loop μ-loop
 returns-3 c = search needs
 
-pub same-spec : {M : Type 1} → statement M
-same-spec =
+pub starts-with-spec : {M : Type 1} → statement M
+starts-with-spec =
     tie.close
     (tie.spec
     Inv-loop
