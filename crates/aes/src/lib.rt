@@ -6,7 +6,7 @@ ghost use Rattle.fips197.specs.Aes128.{encrypt, decrypt};
 pub mod sbox; // sbox.rt: the S-box
 pub mod inv_sbox; // inv_sbox.rt: its inverse
 pub mod key; // key.rt: the key schedule
-pub mod state; // state.rt: the steps of a round
+mod state; // state.rt: the steps of a round
 pub mod forward; // forward.rt: rounds, and the two halves
 pub mod backward; // backward.rt: the same undone
 

@@ -1,4 +1,4 @@
--- The laws that callers cite. Numbers: Xor, Linear, Field, Square. Lists: XorBytes, Same, Tab, Chunks, Array. Blocks as polynomials: TimesX, Num,
+-- The laws that callers cite. Numbers: Xor, Linear, Field, Square. Lists: XorBytes, Same, Tab, Chunks, Array, Zeros. Blocks as polynomials: TimesX, Num,
 -- Product, Horner, Spread, Jump. Test: a rule of many numbers by one computed test.
 pub mod Test
 pub mod Xor
@@ -8,6 +8,7 @@ pub mod Same
 pub mod Tab
 pub mod Chunks
 pub mod Array
+pub mod Zeros
 pub mod Field
 pub mod Square
 pub mod TimesX

@@ -133,10 +133,13 @@ pub fn power(n: u32) -> [u8; 16]
     }
 }
 
-// The block b, multiplied by x n times: one product, with x^n.
+// The block b, multiplied by x n times: one product, with x^n. A run from block 0 needs none.
 pub fn jump(b: [u8; 16], n: u32) -> [u8; 16]
     ensures { λ r. ⌜ r ≡ jumpOf n b ⌝ }
 {
+    if n == 0 {
+        return b;
+    }
     let p = power(n);
     multiply(p, b)
 }

@@ -2,12 +2,12 @@
 use mathlib.Core.Path.{_≡_, refl, sym, ap, _∙_}
 use mathlib.Core.Bool.{Bool, true, false}
 use mathlib.Core.List.{List, _∷_, _++_, append-assoc}
-use Prim.Native.Nat.{ℕ, zero, suc, _+_, _-_, _*_, _/_, _%_, _≤_, _<_}
+use Prim.Native.Nat.{ℕ, _+_, _-_, _*_, _/_, _%_, _≤_}
 use native.Mathlib.Omega.{arith}
-use lib.ListN.{length, drop, set, length-replicate}
-use lib.Seq.{set-at}
+use lib.ListN.{length, set}
 use Rattle.blocks.specs.Bytes.{zeros}
 use Rattle.blocks.specs.Gf128.{jump}
+use Rattle.blocks.proofs.Zeros.{set-zeros, zeros-append}
 use Rattle.blocks.proofs.TimesX.{length-jump}
 use Rattle.mode.specs.Mode.{plaintext, zeroBlock, startMask, blocksOf, padded}
 use Rattle.mode.specs.Aes.{aes}
@@ -18,27 +18,6 @@ use Rattle.mode.proofs.Laws.{start-long}
 use Rattle.mode.proofs.Runs.{output-long}
 use Rattle.mode.proofs.Rows.{misaligned}
 use Rattle.calls.specs.Layout.{kindOf, laidOut, laidOutLength}
-
--- ---- zeros
-
-pub drop-zeros : (n m : ℕ) → drop n (zeros m) ≡ zeros (m - n)
-drop-zeros zero m = ap zeros (let e : m ≡ m - 0 = omega arith in e)
-drop-zeros (suc n) zero = ap zeros (let e : 0 ≡ 0 - suc n = omega arith in e)
-drop-zeros (suc n) (suc m) = drop-zeros n m ∙ ap zeros (let e : m - n ≡ suc m - suc n = omega arith in e)
-
-pub length-zeros : (n : ℕ) → length (zeros n) ≡ n
-length-zeros n = length-replicate {A = ℕ} n 0
-
--- the first of some zeros set
-pub set-zeros : (a : List ℕ) (n v : ℕ) → 0 < n → set (a ++ zeros n) (length a) v ≡ a ++ (v ∷ zeros (n - 1))
-set-zeros a zero v h = absurd (omega arith)
-set-zeros a (suc n) v h = set-at a 0 (zeros n) v (length a) refl ∙ ap (λ (k : ℕ). a ++ (v ∷ zeros k)) (let e : n ≡ suc n - 1 = omega arith in e)
-
-pub zeros-append : (m n : ℕ) → zeros m ++ zeros n ≡ zeros (m + n)
-zeros-append zero n = ap zeros (let e : n ≡ 0 + n = omega arith in e)
-zeros-append (suc m) n = ap (λ (t : List ℕ). 0 ∷ t) (zeros-append m n) ∙ ap zeros (let e : suc (m + n) ≡ suc m + n = omega arith in e)
-
--- ---- a run
 
 pub length-laidOut : (l : Bool) (bytes : List ℕ) → length (laidOut l bytes) ≡ laidOutLength l (length bytes)
 unfolding laidOut laidOutLength

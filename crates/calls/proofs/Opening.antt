@@ -21,7 +21,7 @@ use Rattle.mode.proofs.Demand2.{sealed-lengths}
 use Rattle.mode.proofs.Demand3.{cipher-length}
 use Rattle.mode.proofs.Rows.{first-passes, first-refuses}
 use Rattle.calls.specs.Work.{openFirstRows, SealedLengths, endBy, messageEnd, released, writtenGiven}
-use Rattle.calls.proofs.Passed.{head-passed, tail-passed, key-16}
+use Rattle.mode.proofs.Passed.{head-passed, tail-passed, key-16}
 
 -- ---- the mark 80 and the zeros behind it
 

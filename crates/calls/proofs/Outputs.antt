@@ -8,7 +8,7 @@ use lib.ListN.{length, take, drop, length-drop}
 use lib.Seq.{take-at, drop-at, drop-append-add, take-all}
 use Rattle.blocks.specs.Bytes.{zeros}
 use Rattle.calls.specs.Layout.{Fresh}
-use Rattle.calls.proofs.LaidOut.{drop-zeros, length-zeros}
+use Rattle.blocks.proofs.Zeros.{drop-zeros, length-zeros}
 
 -- a cleared output
 pub fresh : (n : ℕ) (new : List ℕ) → new ≡ zeros n → Fresh new

@@ -1,5 +1,7 @@
 pub mod Aes
 pub mod Rows
+pub mod Answers
+pub mod Passed
 pub mod Join
 pub mod Laws
 pub mod Blocks

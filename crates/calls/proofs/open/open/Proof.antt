@@ -7,7 +7,7 @@ use Rattle.mode.specs.Aes.{aes}
 use Rattle.mode.specs.Table.{firstRow}
 use Rattle.mode.specs.Calls.{openSealed, writtenOf}
 use Rattle.calls.specs.Work.{openFirstRows}
-use Rattle.calls.proofs.Answers.{refused-written, refused-output}
+use Rattle.mode.proofs.Answers.{refused-written, refused-output}
 use Rattle.calls.proofs.Opening.{lengths-refused}
 use Rattle.calls.proofs.Outputs.{fresh}
 use Rattle.calls.proofs.open.open.Statement.{statement}

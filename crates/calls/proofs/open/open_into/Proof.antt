@@ -13,7 +13,7 @@ use Rattle.mode.specs.Mode.{ciphertext, blocksOf, unbrokenTag, ivPart, cipherPa
 use Rattle.mode.specs.Aes.{aes}
 use Rattle.mode.specs.Calls.{Outcome, openSealed, plaintextOf, writtenOf}
 use Rattle.calls.specs.Work.{released}
-use Rattle.calls.proofs.Answers.{refused-written, refused-output}
+use Rattle.mode.proofs.Answers.{refused-written, refused-output}
 use Rattle.calls.proofs.Opening.{lengths-passed, tag-block, tag-differs, tag-right}
 use Rattle.calls.proofs.open.open_into.Statement.{statement}
 use Rattle.calls.proofs.open.open_into.Tie as tie

@@ -5,8 +5,8 @@ use mathlib.Core.List.{List}
 use Prim.Native.Nat.{ℕ}
 use Rattle.mode.specs.Aes.{aes}
 use Rattle.mode.specs.Calls.{closeRows, closingTag, close as closeOf}
-use Rattle.calls.proofs.Answers.{refuses, gives, refused-tag, given-tag}
-use Rattle.calls.proofs.Passed.{key-16, iv-16}
+use Rattle.mode.proofs.Answers.{refuses, gives, refused-tag, given-tag}
+use Rattle.mode.proofs.Passed.{key-16, iv-16}
 use Rattle.calls.proofs.record.close.Statement.{statement}
 use Rattle.calls.proofs.record.close.Tie as tie
 

@@ -10,8 +10,8 @@ use Rattle.mode.specs.Mode.{ciphertext, blocksOf}
 use Rattle.mode.specs.Table.{limit}
 use Rattle.mode.specs.Calls.{checkRunRows, runRecord, checkRun}
 use Rattle.mode.proofs.Blocks.{count-middle}
-use Rattle.calls.proofs.Answers.{refuses, gives, refused-record, given-record}
-use Rattle.calls.proofs.Passed.{key-16, iv-16, run-within}
+use Rattle.mode.proofs.Answers.{refuses, gives, refused-record, given-record}
+use Rattle.mode.proofs.Passed.{key-16, iv-16, run-within}
 use Rattle.calls.proofs.run.check_run.Statement.{statement}
 use Rattle.calls.proofs.run.check_run.Tie as tie
 

@@ -12,8 +12,9 @@ use Rattle.mode.specs.Table.{firstRow}
 use Rattle.mode.specs.Calls.{sealRunRows, blocksOfRun, passFrom, runRecord, sealRun}
 use Rattle.calls.specs.Layout.{kindOf, laidOutLength}
 use Rattle.calls.proofs.LaidOut.{run-output-long}
-use Rattle.calls.proofs.Answers.{refuses, gives, refused-run, given-run, refused-output, given-output}
-use Rattle.calls.proofs.Passed.{key-16, iv-16, run-fits}
+use Rattle.mode.proofs.Answers.{refuses, gives, refused-run, given-run, refused-output, given-output}
+use Rattle.mode.proofs.Passed.{key-16, iv-16}
+use Rattle.calls.proofs.Fits.{run-fits}
 use Rattle.calls.proofs.Outputs.{fresh}
 use Rattle.calls.proofs.run.seal_run.Statement.{statement}
 use Rattle.calls.proofs.run.seal_run.Tie as tie

@@ -12,8 +12,9 @@ use Rattle.mode.specs.Table.{firstRow}
 use Rattle.mode.specs.Calls.{sealRows, seal as sealOf}
 use Rattle.mode.proofs.Aes.{aes-lawful}
 use Rattle.mode.proofs.SealedLength.{sealed-length}
-use Rattle.calls.proofs.Answers.{refuses, gives, refused-written, given-written, refused-output, given-output}
-use Rattle.calls.proofs.Passed.{key-16, iv-16, sealed-fits}
+use Rattle.mode.proofs.Answers.{refuses, gives, refused-written, given-written, refused-output, given-output}
+use Rattle.mode.proofs.Passed.{key-16, iv-16}
+use Rattle.calls.proofs.Fits.{sealed-fits}
 use Rattle.calls.proofs.Outputs.{fresh}
 use Rattle.calls.proofs.seal.seal.Statement.{statement}
 use Rattle.calls.proofs.seal.seal.Tie as tie

@@ -17,7 +17,7 @@ use Rattle.mode.proofs.SealedLength.{unbroken-output-long}
 use Rattle.aes.proofs.Lookup.{sbox-table}
 use Rattle.runs.specs.Run.{keyOf}
 use Rattle.calls.specs.Layout.{laidOut, laidOutLength}
-use Rattle.calls.proofs.LaidOut.{length-zeros}
+use Rattle.blocks.proofs.Zeros.{length-zeros}
 use Rattle.calls.proofs.Keys.{schedule, same-key}
 use Rattle.calls.proofs.Outputs.{fresh, whole-16, stored-front, stored-after, back-is, back-put}
 use Rattle.calls.proofs.seal.seal_into.Statement.{statement}

@@ -7,7 +7,7 @@ use native.Mathlib.Omega.{arith}
 use lib.ListN.{length, drop, length-set}
 use lib.Seq.{take-length}
 use Rattle.blocks.proofs.Tab.{built, built-none, built-more}
-use Rattle.calls.proofs.LaidOut.{drop-zeros}
+use Rattle.blocks.proofs.Zeros.{drop-zeros}
 use Rattle.calls.proofs.text.put.Statement.{statement}
 use Rattle.calls.proofs.text.put.Tie as tie
 

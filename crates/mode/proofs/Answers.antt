@@ -6,12 +6,11 @@ use Prim.Native.Nat.{ℕ, _+_, _-_}
 use lib.Dec.{T}
 use lib.ListN.{length}
 use Rattle.blocks.specs.Bytes.{zeros}
 use Rattle.mode.specs.declared.RunRecord.{RunRecord}
 use Rattle.mode.specs.Table.{Answer, refused, given, decide, firstRow}
-use Rattle.mode.specs.Calls.{Outcome, outcomeBy, number, orElse, writtenOf, runAnswerOf, recordAnswerOf, tagAnswerOf, refusedRecord}
+use Rattle.mode.specs.Calls.{Outcome, outcomeBy, number, orElse, writtenOf, runAnswerOf, recordAnswerOf, tagAnswerOf, refusedRecord, blank}
 use Rattle.mode.specs.Mode.{zeroBlock}
 use Rattle.mode.proofs.Rows.{numbered, first-refuses, first-passes, no-more-rows, outcome-refused, outcome-given}
-use Rattle.calls.specs.Work.{writtenGiven, runGiven, refusedRun}
 
 -- ---- rows that decide all
 
@@ -39,7 +38,7 @@ module _ {A : Type 0} (d : Answer A) (bytes : List ℕ) (room : ℕ) where
   pub refused-output : (n : ℕ) → d ≡ refused n → zeros room ≡ (outcomeBy d bytes room) .output
   refused-output n e = sym (ap (λ (o : Outcome A). o .output) (outcome-refused d bytes room n e))
 
-  pub given-written : (x : A) (n : ℕ) → d ≡ given x → length bytes ≡ n → writtenGiven n ≡ writtenOf (outcomeBy d bytes room)
+  pub given-written : (x : A) (n : ℕ) → d ≡ given x → length bytes ≡ n → record { refusal = 0; length = n } ≡ writtenOf (outcomeBy d bytes room)
   unfolding writtenOf number
   given-written x n e l = sym (ap writtenOf (outcome-given d bytes room x e) ∙ ap (λ (k : ℕ). record { refusal = 0; length = k }) l)
 
@@ -48,13 +47,13 @@ module _ {A : Type 0} (d : Answer A) (bytes : List ℕ) (room : ℕ) where
 
 -- ---- runs, records and tags
 
-pub refused-run : (d : Answer RunRecord) (bytes : List ℕ) (room n : ℕ) → d ≡ refused n → refusedRun n ≡ runAnswerOf (outcomeBy d bytes room)
+pub refused-run : (d : Answer RunRecord) (bytes : List ℕ) (room n : ℕ) → d ≡ refused n → record { refusal = n; length = 0; run = blank } ≡ runAnswerOf (outcomeBy d bytes room)
 unfolding runAnswerOf number orElse
 refused-run d bytes room n e = sym (ap runAnswerOf (outcome-refused d bytes room n e))
 
-pub given-run : (d : Answer RunRecord) (bytes : List ℕ) (room : ℕ) (r : RunRecord) (n : ℕ) → d ≡ given r → length bytes ≡ n → runGiven n r ≡ runAnswerOf (outcomeBy d bytes room)
+pub given-run : (d : Answer RunRecord) (bytes : List ℕ) (room : ℕ) (r : RunRecord) (n : ℕ) → d ≡ given r → length bytes ≡ n → record { refusal = 0; length = n; run = r } ≡ runAnswerOf (outcomeBy d bytes room)
 unfolding runAnswerOf number orElse
-given-run d bytes room r n e l = sym (ap runAnswerOf (outcome-given d bytes room r e) ∙ ap (λ (k : ℕ). runGiven k r) l)
+given-run d bytes room r n e l = sym (ap runAnswerOf (outcome-given d bytes room r e) ∙ ap (λ (k : ℕ). record { refusal = 0; length = k; run = r }) l)
 
 pub refused-record : (d : Answer RunRecord) (n : ℕ) → d ≡ refused n → refusedRecord n ≡ recordAnswerOf d
 unfolding recordAnswerOf number orElse

@@ -2,19 +2,12 @@
 use mathlib.Core.Path.{_≡_, refl}
 use mathlib.Core.Bool.{Bool, true, false, not}
 use mathlib.Core.List.{List, _∷_}
-use Prim.Native.Nat.{ℕ, suc, _+_, _*_, _/_, _%_, _≤_}
+use Prim.Native.Nat.{ℕ, suc, _+_, _≤_}
 use native.Mathlib.Omega.{arith}
 use lib.Dec.{eqb, ltb}
 use lib.ListN.{length}
 use borrow.Author.Tests.{eqb-true, ltb-false, not-false}
-use Rattle.mode.specs.Mode.{sealedRecord}
-use Rattle.mode.specs.Aes.{aes}
-use Rattle.mode.specs.Table.{firstRow, limit, not16, unaligned, beyond}
-use Rattle.mode.specs.Calls.{sealRunRows, sealRows, blocksOfRun, unalignedRun}
-use Rattle.mode.proofs.Aes.{aes-lawful}
-use Rattle.mode.proofs.SealedLength.{sealed-length}
-use Rattle.calls.specs.Layout.{kindOf, laidOutLength}
-use Rattle.calls.proofs.LaidOut.{count-laidOut}
+use Rattle.mode.specs.Table.{firstRow, limit, not16, beyond}
 
 -- the head of rows that do not hold, and the rows after it
 pub head-passed : (n : ℕ) (b : Bool) (rows : List (ℕ × Bool)) → firstRow ((suc n, b) ∷ rows) ≡ 0 → b ≡ false
@@ -55,25 +48,3 @@ run-within key iv b first count rows e =
     within-limit first count rows
     (tail-passed 2 b ((4, beyond first count) ∷ rows)
     (tail-passed 1 (not16 iv) ((3, b) ∷ (4, beyond first count) ∷ rows) (tail-passed 0 (not16 key) ((2, not16 iv) ∷ (3, b) ∷ (4, beyond first count) ∷ rows) e)))
-
--- ---- calls that write: the output is long enough
-
-run-aligned : (l : Bool) (bytes : List ℕ) → unalignedRun (kindOf l) bytes ≡ false → laidOutLength l (length bytes) % 16 ≡ 0
-unfolding kindOf laidOutLength unalignedRun unaligned
-run-aligned true bytes e = omega arith
-run-aligned false bytes e = eqb-true (length bytes % 16) 0 (not-false (eqb (length bytes % 16) 0) e)
-
-pub run-fits : (key iv : List ℕ) (first : ℕ) (l : Bool) (bytes : List ℕ) (room : ℕ) → firstRow (sealRunRows key iv first (kindOf l) bytes room) ≡ 0
-    → (laidOutLength l (length bytes) ≤ room) × ((laidOutLength l (length bytes) % 16 ≡ 0) × (laidOutLength l (length bytes) / 16 ≤ limit))
-run-fits key iv first l bytes room e =
-    let k = count-laidOut l bytes in
-    let e₃ = tail-passed 1 _ _ (tail-passed 0 _ _ e) in
-    let a = run-aligned l bytes (head-passed 2 _ _ e₃) in
-    let f : 16 * length (blocksOfRun (kindOf l) bytes) ≤ room = ltb-false room (16 * length (blocksOfRun (kindOf l) bytes)) (head-passed 4 _ _ (tail-passed 3 _ _ (tail-passed 2 _ _ e₃))) in
-    let w : first + length (blocksOfRun (kindOf l) bytes) ≤ limit = run-within key iv _ first _ _ e in
-    (omega (arith, f, k, a), (a, omega (arith, w, k)))
-
-pub sealed-fits : (key iv message : List ℕ) (room : ℕ) → firstRow (sealRows aes key iv message room) ≡ 0 → length message / 16 * 16 + 48 ≤ room
-sealed-fits key iv message room e =
-    let f : length (sealedRecord aes key iv message) ≤ room = ltb-false room (length (sealedRecord aes key iv message)) (head-passed 4 _ _ (tail-passed 2 _ _ (tail-passed 1 _ _ (tail-passed 0 _ _ e)))) in
-    omega (arith, f, sealed-length aes aes-lawful key (key-16 key _ e) iv (iv-16 key iv _ e) message)

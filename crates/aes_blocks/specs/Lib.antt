@@ -1,0 +1,2 @@
+-- EachBlock: a cipher applied to each block by itself.
+pub mod EachBlock

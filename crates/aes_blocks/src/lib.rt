@@ -1,0 +1,102 @@
+// AES-128 of each block of a slice by itself, for programs in C and Rust: to compare the engine with others, and to measure it. It is no
+// mode: equal blocks give equal blocks.
+ghost use mathlib.Core.Path.{_≡_};
+ghost use mathlib.Core.List.{_++_};
+ghost use Prim.Native.Nat.{_*_, _/_, _≤_};
+ghost use lib.ListN.{length, drop};
+ghost use Rattle.blocks.specs.Bytes.{firstBlocks};
+ghost use Rattle.fips197.specs.Sbox.{sbox as sboxOf, invSbox};
+ghost use Rattle.fips197.specs.Aes128.{encrypt, decrypt};
+ghost use Rattle.aes.specs.Table.{Tabulates};
+ghost use Rattle.runs.specs.Run.{keyOf, Expanded};
+ghost use Rattle.mode.specs.Table.{firstRow};
+ghost use Rattle.mode.specs.Calls.{number};
+ghost use Rattle.aes_blocks.specs.EachBlock.{each, eachRows, eachBlock};
+
+// The first row that holds, or 0.
+fn refusal(key: &[u8], text: &[u8], room: usize) -> u8
+    ensures { λ n. ⌜ n ≡ firstRow (eachRows (now (key .entry)) (now (text .entry)) room) ⌝ }
+{
+    if key.len() != 16 {
+        return 1;
+    }
+    if text.len() % 16 != 0 {
+        return 3;
+    }
+    if room < text.len() {
+        return 5;
+    }
+    0
+}
+
+fn encrypt_all(keys: &[u8; 176], sbox: &[u8; 256], text: &[u8], out: &mut [u8])
+    requires { ⌜ Expanded (now keys) ⌝ }
+    requires { ⌜ Tabulates (now sbox) sboxOf ⌝ }
+    requires { ⌜ length (now text) ≤ length (now out) ⌝ }
+    ensures { λ _. ⌜ now (out .exit) ≡ each (encrypt (keyOf (now (keys .entry)))) (firstBlocks (length (now (text .entry)) / 16) (now (text .entry))) ++ drop (length (now (text .entry)) / 16 * 16) (now (out .entry)) ⌝ }
+{
+    let n = text.len() / 16;
+    let mut i: usize = 0;
+    while i < n {
+        let at = i * 16;
+        let block = blocks::block::load(text, at);
+        let middle = aes::forward::first_half(block, keys, sbox);
+        let whole = aes::forward::second_half(middle, keys, sbox);
+        blocks::block::store(out, at, whole);
+        i += 1;
+    }
+}
+
+fn decrypt_all(keys: &[u8; 176], inv_sbox: &[u8; 256], text: &[u8], out: &mut [u8])
+    requires { ⌜ Expanded (now keys) ⌝ }
+    requires { ⌜ Tabulates (now «inv_sbox») invSbox ⌝ }
+    requires { ⌜ length (now text) ≤ length (now out) ⌝ }
+    ensures { λ _. ⌜ now (out .exit) ≡ each (decrypt (keyOf (now (keys .entry)))) (firstBlocks (length (now (text .entry)) / 16) (now (text .entry))) ++ drop (length (now (text .entry)) / 16 * 16) (now (out .entry)) ⌝ }
+{
+    let n = text.len() / 16;
+    let mut i: usize = 0;
+    while i < n {
+        let at = i * 16;
+        let block = blocks::block::load(text, at);
+        let middle = aes::backward::inv_second_half(block, keys, inv_sbox);
+        let whole = aes::backward::inv_first_half(middle, keys, inv_sbox);
+        blocks::block::store(out, at, whole);
+        i += 1;
+    }
+}
+
+// ENCRYPT each block.
+#[no_mangle]
+pub extern "C" fn aes_blocks_encrypt(key: &[u8], text: &[u8], out: &mut [u8]) -> u8
+    ensures answer { λ n. ⌜ n ≡ number ((eachBlock encrypt (now (key .entry)) (now (text .entry)) (length (now (out .entry)))) .answer) ⌝ }
+    ensures output { λ _. ⌜ now (out .exit) ≡ (eachBlock encrypt (now (key .entry)) (now (text .entry)) (length (now (out .entry)))) .output ⌝ }
+{
+    blocks::block::clear(out);
+    let r = refusal(key, text, out.len());
+    if r != 0 {
+        return r;
+    }
+    let sbox = &aes::sbox::SBOX;
+    let k = blocks::block::load(key, 0);
+    let keys = aes::key::expand(k);
+    encrypt_all(&keys, sbox, text, out);
+    0
+}
+
+// DECRYPT each block.
+#[no_mangle]
+pub extern "C" fn aes_blocks_decrypt(key: &[u8], text: &[u8], out: &mut [u8]) -> u8
+    ensures answer { λ n. ⌜ n ≡ number ((eachBlock decrypt (now (key .entry)) (now (text .entry)) (length (now (out .entry)))) .answer) ⌝ }
+    ensures output { λ _. ⌜ now (out .exit) ≡ (eachBlock decrypt (now (key .entry)) (now (text .entry)) (length (now (out .entry)))) .output ⌝ }
+{
+    blocks::block::clear(out);
+    let r = refusal(key, text, out.len());
+    if r != 0 {
+        return r;
+    }
+    let inv_sbox = &aes::inv_sbox::INV_SBOX;
+    let k = blocks::block::load(key, 0);
+    let keys = aes::key::expand(k);
+    decrypt_all(&keys, inv_sbox, text, out);
+    0
+}

@@ -1,0 +1,46 @@
+-- An answer that is written to a lent output.
+use mathlib.Core.Path.{_≡_, refl, sym, ap, _∙_}
+use mathlib.Core.Bool.{Bool, true, false, cond, not}
+use mathlib.Core.List.{List, [], _∷_, _++_}
+use Prim.Native.Nat.{ℕ, _-_, _≤_}
+use native.Mathlib.Omega.{arith}
+use lib.Dec.{eqb, ltb}
+use lib.ListN.{length}
+use borrow.Author.Tests.{eqb-false, ltb-false}
+use Rattle.blocks.specs.Bytes.{zeros}
+use Rattle.mode.specs.Table.{Answer, refused, given, decide, firstRow}
+use Rattle.mode.specs.Calls.{Outcome, number}
+use Rattle.mode.proofs.Rows.{outcome-refused, outcome-given}
+use Rattle.mode.proofs.Answers.{refuses}
+use Rattle.balzenoh.specs.Exports.{lentRows, lent}
+
+-- what is known where neither row holds
+passed : (f room n : ℕ) → firstRow (lentRows f room n) ≡ 0 → (eqb f 0 ≡ true) × (ltb room n ≡ false)
+unfolding firstRow
+passed f room n e = by (eqb f 0) (ltb room n) refl refl e
+  where
+    by : (p q : Bool) → eqb f 0 ≡ p → ltb room n ≡ q → cond (not p) f (cond q 5 0) ≡ 0 → (eqb f 0 ≡ true) × (ltb room n ≡ false)
+    by true false u v e = (u, v)
+    by true true u v e = absurd (omega arith)
+    by false q u v e = absurd (eqb-false f 0 u e)
+
+pub room-there : (f room n : ℕ) → firstRow (lentRows f room n) ≡ 0 → n ≤ room
+room-there f room n e = ltb-false room n (passed f room n e .1)
+
+module _ (f : ℕ) (bytes : List ℕ) (room n : ℕ) (long : length bytes ≡ n) where
+  -- refused: the output is zeros
+  pub lent-refused : (k : ℕ) → k ≡ firstRow (lentRows f room n) → (k ≡ 0 → ⊥) → (k ≡ number ((lent f bytes room) .answer)) × (zeros room ≡ (lent f bytes room) .output)
+  unfolding lent number
+  lent-refused k e h =
+      let d = refuses (lentRows f room (length bytes)) bytes k (e ∙ ap (λ (m : ℕ). firstRow (lentRows f room m)) (sym long)) h in
+      let o = outcome-refused _ bytes room k d in
+      (sym (ap (λ (x : Outcome (List ℕ)). number (x .answer)) o), sym (ap (λ (x : Outcome (List ℕ)). x .output) o))
+
+  -- given: the bytes, and zeros beyond them
+  pub lent-given : firstRow (lentRows f room n) ≡ 0 → (0 ≡ number ((lent f bytes room) .answer)) × (bytes ++ zeros (room - n) ≡ (lent f bytes room) .output)
+  unfolding lent number decide
+  lent-given e =
+      let p = passed f room n e in
+      let d : decide (lentRows f room (length bytes)) bytes ≡ given bytes = rw (p .0, long, p .1) refl in
+      let o = outcome-given _ bytes room bytes d in
+      (sym (ap (λ (x : Outcome (List ℕ)). number (x .answer)) o), sym (ap (λ (x : Outcome (List ℕ)). x .output) o ∙ ap (λ (m : ℕ). bytes ++ zeros (room - m)) long))

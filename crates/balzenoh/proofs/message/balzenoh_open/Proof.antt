@@ -1,0 +1,20 @@
+-- The call, its number and its length.
+use borrow.Author.Needs.{needs}
+use mathlib.Core.Path.{ap}
+use Rattle.mode.specs.declared.Written.{Written}
+use Rattle.mode.specs.Calls.{writtenOf}
+use Rattle.balzenoh.proofs.message.balzenoh_open.Statement.{statement}
+use Rattle.balzenoh.proofs.message.balzenoh_open.Tie as tie
+
+open-requires : tie.Need-open-requires
+open-requires c κs = search needs
+
+same-length : tie.Need-same-length
+same-length c = search needs
+
+returns : tie.Need-returns
+unfolding writtenOf
+returns c = let x = c .before .before .«open» .ensures in (ap (λ (w : Written). w .refusal) (x .0), (ap (λ (w : Written). w .length) (x .0), x .1))
+
+pub balzenoh-open-spec : {M : Type 1} → statement M
+balzenoh-open-spec = tie.close (tie.spec open-requires same-length returns)

@@ -1,0 +1,68 @@
+-- What each exported function comes to, over the outcomes of the calls.
+use mathlib.Core.Bool.{Bool, cond, not, _||_}
+use mathlib.Core.List.{List, [], _∷_}
+use Prim.Native.Nat.{ℕ, _%_}
+use lib.Dec.{eqb}
+use lib.ListN.{length}
+use Rattle.blocks.specs.Bytes.{zeros}
+use Rattle.mode.specs.declared.RunRecord.{RunRecord}
+use Rattle.mode.specs.declared.RunAnswer.{RunAnswer}
+use Rattle.mode.specs.declared.RecordAnswer.{RecordAnswer}
+use Rattle.mode.specs.declared.TagAnswer.{TagAnswer}
+use Rattle.mode.specs.Mode.{zeroBlock}
+use Rattle.mode.specs.Aes.{aes}
+use Rattle.mode.specs.Table.{decide, tooShort}
+use Rattle.mode.specs.Calls.{Outcome, outcomeBy, joinTwo, joinList, close, test, number, runAnswerOf, recordAnswerOf, refusedRecord, tagAnswerOf}
+use Rattle.balzenoh.specs.Encoding.{encoded, decoded, recordsOf}
+
+-- ---- an answer that is written to a lent output: the call's refusal, or 5 where the output is too short
+
+abbrev pub lentRows : ℕ → ℕ → ℕ → List (ℕ × Bool)
+lentRows refusal room needed = (refusal, not (eqb refusal 0)) ∷ (5, tooShort room needed) ∷ []
+
+unfoldable pub lent : ℕ → List ℕ → ℕ → Outcome (List ℕ)
+lent refusal bytes room = outcomeBy (decide (lentRows refusal room (length bytes)) bytes) bytes room
+
+abbrev pub lentRecord : RecordAnswer → ℕ → Outcome (List ℕ)
+lentRecord a room = lent (a .refusal) (encoded (a .run)) room
+
+abbrev pub lentTag : TagAnswer → ℕ → Outcome (List ℕ)
+lentTag a room = lent (a .refusal) (a .tag) room
+
+-- ---- a record that is handed in
+
+-- 24, the refusal of this layer, which comes before all others: not 24 bytes; a list: no multiple of 24
+unfoldable pub notRecord : List ℕ → Bool
+notRecord b = not (eqb (length b) 24)
+
+unfoldable pub notRecords : List ℕ → Bool
+notRecords b = not (eqb (length b % 24) 0)
+
+-- JOIN
+unfoldable pub joinBytes : List ℕ → List ℕ → RecordAnswer
+joinBytes l r = cond (notRecord l || notRecord r) (refusedRecord 24) (recordAnswerOf (joinTwo (decoded l) (decoded r)))
+
+-- JOIN A LIST
+unfoldable pub joinListBytes : List ℕ → RecordAnswer
+joinListBytes b = cond (notRecords b) (refusedRecord 24) (recordAnswerOf (joinList (recordsOf b)))
+
+-- CLOSE
+unfoldable pub closeBytes : List ℕ → List ℕ → List ℕ → TagAnswer
+closeBytes key iv r = cond (notRecord r) (record { refusal = 24; tag = zeroBlock }) (tagAnswerOf (close aes key iv (decoded r)))
+
+-- TEST
+unfoldable pub testBytes : List ℕ → List ℕ → List ℕ → List ℕ → ℕ
+testBytes key iv r tag = cond (notRecord r) 24 (number (test aes key iv (decoded r) tag))
+
+-- ---- SEAL A RUN
+
+-- the record's part in the answer to a run
+abbrev pub recordOf : RunAnswer → RecordAnswer
+recordOf a = record { refusal = a .refusal; run = a .run }
+
+-- where there is no room for the record, the ciphertext is not kept
+unfoldable pub keptLength : Outcome RunRecord → ℕ → ℕ
+keptLength o room = cond (tooShort room 24) 0 (o .reported)
+
+unfoldable pub keptOutput : Outcome RunRecord → ℕ → List ℕ
+keptOutput o room = cond (tooShort room 24) (zeros (length (o .output))) (o .output)

@@ -1,0 +1,76 @@
+// Join two run records, join a list.
+use mode::RecordAnswer;
+use mode::RunRecord;
+ghost use mathlib.Core.Path.{_≡_};
+ghost use Prim.Native.Nat.{_+_, _*_, _≤_};
+ghost use lib.ListN.{length, take, drop};
+ghost use Rattle.mode.specs.Calls.{joinList, recordAnswerOf, number};
+ghost use Rattle.balzenoh.specs.Encoding.{decoded, recordsOf};
+ghost use Rattle.balzenoh.specs.Exports.{lentRecord, joinBytes, joinListBytes};
+
+fn join_two(left: &[u8], right: &[u8]) -> RecordAnswer
+    ensures { λ a. ⌜ a ≡ joinBytes (now (left .entry)) (now (right .entry)) ⌝ }
+{
+    if left.len() != 24 {
+        return mode::refused(24);
+    }
+    if right.len() != 24 {
+        return mode::refused(24);
+    }
+    let l = crate::record::decode(left);
+    let r = crate::record::decode(right);
+    l.join(r)
+}
+
+// JOIN two records.
+#[no_mangle]
+pub extern "C" fn balzenoh_join(left: &[u8], right: &[u8], run: &mut [u8]) -> u8
+    ensures answer { λ n. ⌜ n ≡ number ((lentRecord (joinBytes (now (left .entry)) (now (right .entry))) (length (now (run .entry)))) .answer) ⌝ }
+    ensures output { λ _. ⌜ now (run .exit) ≡ (lentRecord (joinBytes (now (left .entry)) (now (right .entry))) (length (now (run .entry)))) .output ⌝ }
+{
+    let answer = join_two(left, right);
+    crate::record::give(answer, run)
+}
+
+// Record i of a list.
+fn record_at(records: &[u8], i: usize) -> RunRecord
+    requires { ⌜ i * 24 + 24 ≤ length (now records) ⌝ }
+    ensures { λ r. ⌜ r ≡ decoded (take 24 (drop (i * 24) (now (records .entry)))) ⌝ }
+{
+    let at = i * 24;
+    crate::record::decode(&records[at..at + 24])
+}
+
+// The records one after the other, by the step of which the join of a list is the fold.
+fn join_records(records: &[u8]) -> RecordAnswer
+    ensures { λ a. ⌜ a ≡ recordAnswerOf (joinList (recordsOf (now (records .entry)))) ⌝ }
+{
+    let mut answer = mode::refused(9);
+    let mut i: usize = 0;
+    let count = records.len() / 24;
+    while i < count {
+        let next = record_at(records, i);
+        answer = record_list::onto(answer, next);
+        i += 1;
+    }
+    answer
+}
+
+fn join_bytes(records: &[u8]) -> RecordAnswer
+    ensures { λ a. ⌜ a ≡ joinListBytes (now (records .entry)) ⌝ }
+{
+    if records.len() % 24 != 0 {
+        return mode::refused(24);
+    }
+    join_records(records)
+}
+
+// JOIN A LIST.
+#[no_mangle]
+pub extern "C" fn balzenoh_join_list(records: &[u8], run: &mut [u8]) -> u8
+    ensures answer { λ n. ⌜ n ≡ number ((lentRecord (joinListBytes (now (records .entry))) (length (now (run .entry)))) .answer) ⌝ }
+    ensures output { λ _. ⌜ now (run .exit) ≡ (lentRecord (joinListBytes (now (records .entry))) (length (now (run .entry)))) .output ⌝ }
+{
+    let answer = join_bytes(records);
+    crate::record::give(answer, run)
+}

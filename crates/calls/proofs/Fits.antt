@@ -1,0 +1,38 @@
+-- Where no row of a call that writes holds, the output is long enough.
+use mathlib.Core.Path.{_≡_}
+use mathlib.Core.Bool.{Bool, true, false, not}
+use mathlib.Core.List.{List}
+use Prim.Native.Nat.{ℕ, _+_, _*_, _/_, _%_, _≤_}
+use native.Mathlib.Omega.{arith}
+use lib.Dec.{eqb}
+use lib.ListN.{length}
+use borrow.Author.Tests.{eqb-true, ltb-false, not-false}
+use Rattle.mode.specs.Mode.{sealedRecord}
+use Rattle.mode.specs.Aes.{aes}
+use Rattle.mode.specs.Table.{firstRow, limit, unaligned}
+use Rattle.mode.specs.Calls.{sealRunRows, sealRows, blocksOfRun, unalignedRun}
+use Rattle.mode.proofs.Aes.{aes-lawful}
+use Rattle.mode.proofs.Passed.{head-passed, tail-passed, key-16, iv-16, run-within}
+use Rattle.mode.proofs.SealedLength.{sealed-length}
+use Rattle.calls.specs.Layout.{kindOf, laidOutLength}
+use Rattle.calls.proofs.LaidOut.{count-laidOut}
+
+run-aligned : (l : Bool) (bytes : List ℕ) → unalignedRun (kindOf l) bytes ≡ false → laidOutLength l (length bytes) % 16 ≡ 0
+unfolding kindOf laidOutLength unalignedRun unaligned
+run-aligned true bytes e = omega arith
+run-aligned false bytes e = eqb-true (length bytes % 16) 0 (not-false (eqb (length bytes % 16) 0) e)
+
+pub run-fits : (key iv : List ℕ) (first : ℕ) (l : Bool) (bytes : List ℕ) (room : ℕ) → firstRow (sealRunRows key iv first (kindOf l) bytes room) ≡ 0
+    → (laidOutLength l (length bytes) ≤ room) × ((laidOutLength l (length bytes) % 16 ≡ 0) × (laidOutLength l (length bytes) / 16 ≤ limit))
+run-fits key iv first l bytes room e =
+    let k = count-laidOut l bytes in
+    let e₃ = tail-passed 1 _ _ (tail-passed 0 _ _ e) in
+    let a = run-aligned l bytes (head-passed 2 _ _ e₃) in
+    let f : 16 * length (blocksOfRun (kindOf l) bytes) ≤ room = ltb-false room (16 * length (blocksOfRun (kindOf l) bytes)) (head-passed 4 _ _ (tail-passed 3 _ _ (tail-passed 2 _ _ e₃))) in
+    let w : first + length (blocksOfRun (kindOf l) bytes) ≤ limit = run-within key iv _ first _ _ e in
+    (omega (arith, f, k, a), (a, omega (arith, w, k)))
+
+pub sealed-fits : (key iv message : List ℕ) (room : ℕ) → firstRow (sealRows aes key iv message room) ≡ 0 → length message / 16 * 16 + 48 ≤ room
+sealed-fits key iv message room e =
+    let f : length (sealedRecord aes key iv message) ≤ room = ltb-false room (length (sealedRecord aes key iv message)) (head-passed 4 _ _ (tail-passed 2 _ _ (tail-passed 1 _ _ (tail-passed 0 _ _ e)))) in
+    omega (arith, f, sealed-length aes aes-lawful key (key-16 key _ e) iv (iv-16 key iv _ e) message)
