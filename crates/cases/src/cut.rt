@@ -1,6 +1,6 @@
 // Blocks cut into runs at random places, in a random order, and their records joined two at a time in a random order.
 ghost use Prim.Native.Nat.{_<_, _≤_};
-use crate::random::Random;
+use case_tools::random::Random;
 use mode::RecordAnswer;
 use mode::RunAnswer;
 use mode::RunRecord;
@@ -53,10 +53,10 @@ fn order(random: Random, runs: usize) -> [usize; 8]
 pub fn cut_of(seed: u32, count: usize) -> Cut
     requires { ⌜ count ≤ 4000 ⌝ }
 {
-    let random = crate::random::seeded(seed);
+    let random = case_tools::random::seeded(seed);
     let runs = random.below(8) + 1;
-    let other = crate::random::seeded(random.state);
-    let third = crate::random::seeded(other.state);
+    let other = case_tools::random::seeded(random.state);
+    let third = case_tools::random::seeded(other.state);
     Cut {
         runs,
         starts: starts(random, count),

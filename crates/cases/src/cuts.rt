@@ -1,17 +1,17 @@
 // Seeded messages: each is sealed whole, sealed in runs and checked in runs, and opened, and all has to come to the same.
 ghost use Prim.Native.Nat.{_<_, _≤_};
 ghost use lib.ListN.{length};
-use crate::bytes::gives_record;
-use crate::bytes::gives_tag;
-use crate::bytes::one_if;
-use crate::bytes::starts_with;
-use crate::bytes::written;
 use crate::cut::check_in_runs;
 use crate::cut::cut_of;
 use crate::cut::seal_in_runs;
-use crate::hex::block;
-use crate::random::fill;
-use crate::random::noise;
+use case_tools::bytes::gives_record;
+use case_tools::bytes::gives_tag;
+use case_tools::bytes::one_if;
+use case_tools::bytes::starts_with;
+use case_tools::bytes::written;
+use case_tools::hex::block;
+use case_tools::random::fill;
+use case_tools::random::noise;
 use mode::RecordAnswer;
 use mode::RunRecord;
 
@@ -106,7 +106,7 @@ fn held_to(key: [u8; 16], iv: [u8; 16], seed: u32, message: &[u8], whole: &[u8])
     One {
         sealed: seals(key, iv, seed + 1, message, &whole[16..stop], tag),
         checked: checks(key, iv, seed + 1000, &whole[16..stop], tag),
-        opened: crate::open_case::answers(&key, whole, &mut out, 0, message),
+        opened: case_tools::open::answers(&key, whole, &mut out, 0, message),
         tag,
         end,
     }
@@ -147,7 +147,7 @@ fn numbered(number: u32) -> One
     ensures { λ r. ⌜ (r .sealed ≤ 1) × (r .checked ≤ 1) × (r .opened ≤ 1) ⌝ }
 {
     let seed = number * 2 + 1;
-    let random = crate::random::seeded(seed).next();
+    let random = case_tools::random::seeded(seed).next();
     let n = random.below(most(number));
     let mut key = [0u8; 16];
     let after_key = fill(random, &mut key);
@@ -187,7 +187,7 @@ pub fn run() -> Agreed {
     }
 }
 
-// The sums are those of bench/make-mode-vectors.
+// The sums are those of vectors/make-mode-vectors.
 pub fn sums(agreed: Agreed) -> usize {
     let tags = block(b"6D3921BF9C6A9FFAF0954455D84455EE");
     let ends = block(b"135AE7A00D0850F6D3D3E2421A827D73");

@@ -2,10 +2,10 @@
 ghost use mathlib.Core.Path.{_≡_};
 ghost use Prim.Native.Nat.{_+_, _≤_};
 ghost use lib.ListN.{length};
-use crate::bytes::flip;
-use crate::bytes::one_if;
-use crate::open_case::answers;
-use crate::paper;
+use case_tools::bytes::flip;
+use case_tools::bytes::one_if;
+use case_tools::open::answers;
+use case_tools::paper;
 use mode::RecordAnswer;
 
 // The record of a message of 20 bytes: IV, two blocks, tag.

@@ -2,10 +2,10 @@
 // line's end after each. Line n has a message of n bytes.
 ghost use Prim.Native.Nat.{_+_, _*_, _/_, _<_, _≤_};
 ghost use lib.ListN.{length};
-use crate::bytes::answered;
-use crate::bytes::one_if;
-use crate::hex::block_at;
-use crate::hex::bytes_at;
+use case_tools::bytes::answered;
+use case_tools::bytes::one_if;
+use case_tools::hex::block_at;
+use case_tools::hex::bytes_at;
 
 // How many lines agreed, by what was tried.
 pub struct Agreed {
@@ -19,7 +19,7 @@ fn seals(key: [u8; 16], iv: [u8; 16], message: &[u8], sealed: &[u8]) -> usize
     ensures { λ r. ⌜ r ≤ 1 ⌝ }
 {
     let mut out = [0u8; 256];
-    crate::random::noise(&mut out);
+    case_tools::random::noise(&mut out);
     let w = calls::seal::seal(&key, &iv, message, &mut out);
     one_if(answered(w, 0, sealed, &out))
 }
@@ -29,7 +29,7 @@ fn opens(key: [u8; 16], message: &[u8], sealed: &[u8]) -> usize
     ensures { λ r. ⌜ r ≤ 1 ⌝ }
 {
     let mut out = [0u8; 256];
-    crate::random::noise(&mut out);
+    case_tools::random::noise(&mut out);
     let w = calls::open::open(&key, sealed, &mut out);
     one_if(answered(w, 0, message, &out))
 }

@@ -2,22 +2,16 @@
 ghost use mathlib.Core.Path.{_≡_};
 ghost use Prim.Native.Nat.{_≤_};
 ghost use lib.ListN.{length};
-use crate::bytes::answered;
-use crate::bytes::gives_record;
-use crate::bytes::gives_tag;
-use crate::bytes::one_if;
-use crate::bytes::same_record;
-use crate::hex::block;
+use case_tools::bytes::answered;
+use case_tools::bytes::gives_record;
+use case_tools::bytes::gives_tag;
+use case_tools::bytes::one_if;
+use case_tools::bytes::same_record;
+use case_tools::hex::block;
+use case_tools::paper::iv;
+use case_tools::paper::key;
 use mode::RunRecord;
 use mode::Written;
-
-pub fn key() -> [u8; 16] {
-    block(b"000102030405060708090A0B0C0D0E0F")
-}
-
-pub fn iv() -> [u8; 16] {
-    block(b"0123456789ABCDEF0123456789ABCDEF")
-}
 
 // ---- values as printed
 
@@ -27,7 +21,7 @@ fn seals(iv: [u8; 16], text: &[u8], cipher: &[u8], run: RunRecord) -> usize
 {
     let key = key();
     let mut out = [0u8; 65536];
-    crate::random::noise(&mut out);
+    case_tools::random::noise(&mut out);
     let a = calls::run::seal_run(&key, &iv, run.first, false, text, &mut out);
     let w = Written {
         refusal: a.refusal,
@@ -101,7 +95,7 @@ pub fn both_blocks() -> usize {
     run_gives(iv(), &all[0..32], &all[16..], record(0, 2, a2)) + tag_is(iv(), record(0, 2, a2), tag)
 }
 
-// An IV under which step 1 comes to zero: the start mask is the key. The values are those of bench/make-mode-vectors.
+// An IV under which step 1 comes to zero: the start mask is the key. The values are those of vectors/make-mode-vectors.
 pub fn zero_start_mask() -> usize {
     let iv = block(b"7756E165ED666861921F273EF920B016");
     let m1 = block(b"00112233445566778899AABBCCDDEEFF");
@@ -203,7 +197,7 @@ fn in_one_run(text: &[u8], run: RunRecord) -> usize
     run_gives(iv(), &text[0..64000], &text[16..], run)
 }
 
-// The last ciphertext block, the pre-authenticator and the tag are those of bench/make-mode-vectors.
+// The last ciphertext block, the pre-authenticator and the tag are those of vectors/make-mode-vectors.
 fn as_elsewhere(text: &[u8], run: RunRecord) -> usize
     requires { ⌜ length (now text) ≡ 64016 ⌝ }
     ensures { λ r. ⌜ r ≤ 4 ⌝ }

@@ -1,0 +1,32 @@
+// One case of jumping a mask, and what it gets.
+ghost use Prim.Native.Nat.{_≤_};
+use case_tools::bytes::one_if;
+use case_tools::bytes::written;
+use case_tools::random::noise;
+
+fn answers(mask: &[u8], distance: u32, out: &mut [u8], refusal: u8, size: usize) -> usize
+    ensures { λ r. ⌜ r ≤ 1 ⌝ }
+{
+    noise(out);
+    let w = calls::mask::jump(mask, distance, out);
+    one_if(written(w, refusal, size, out))
+}
+
+pub fn refused(mask: usize, distance: u32, room: usize, refusal: u8) -> usize
+    requires { ⌜ mask ≤ 64 ⌝ }
+    requires { ⌜ room ≤ 64 ⌝ }
+    ensures { λ r. ⌜ r ≤ 1 ⌝ }
+{
+    let bytes = [5u8; 64];
+    let mut out = [0u8; 64];
+    answers(&bytes[0..mask], distance, &mut out[0..room], refusal, 0)
+}
+
+pub fn jumped(distance: u32, room: usize) -> usize
+    requires { ⌜ room ≤ 64 ⌝ }
+    ensures { λ r. ⌜ r ≤ 1 ⌝ }
+{
+    let bytes = [5u8; 16];
+    let mut out = [0u8; 64];
+    answers(&bytes, distance, &mut out[0..room], 0, 16)
+}

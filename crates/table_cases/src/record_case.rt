@@ -1,0 +1,163 @@
+// One case of joining, closing or testing a record made by hand, and what it gets.
+ghost use Prim.Native.Nat.{_≤_};
+use case_tools::bytes::blank;
+use case_tools::bytes::flip;
+use case_tools::bytes::gives_record;
+use case_tools::bytes::one_if;
+use case_tools::hex::block;
+use case_tools::paper;
+use mode::RunRecord;
+
+// A record made by hand.
+fn made(first: u32, count: u32) -> RunRecord {
+    RunRecord {
+        first,
+        count,
+        preauthenticator: block(b"5BD1E995C6EF3720A54FF53A1F83D9AB"),
+    }
+}
+
+// A key, an IV or a tag in front of zeros, to be cut to any length up to 32.
+fn lengthened(b: [u8; 16]) -> [u8; 32] {
+    let mut r = [0u8; 32];
+    blocks::block::store(&mut r, 0, b);
+    r
+}
+
+// ---- join
+
+pub fn join_refused(
+    first: u32,
+    count: u32,
+    right_first: u32,
+    right_count: u32,
+    refusal: u8,
+) -> usize
+    ensures { λ r. ⌜ r ≤ 1 ⌝ }
+{
+    let a = made(first, count).join(made(right_first, right_count));
+    one_if((a.refusal == refusal) & blank(a.run))
+}
+
+pub fn joined(first: u32, count: u32, right_first: u32, right_count: u32) -> usize
+    ensures { λ r. ⌜ r ≤ 1 ⌝ }
+{
+    let a = made(first, count).join(made(right_first, right_count));
+    let run = a.run;
+    let all = count as u64 + right_count as u64;
+    one_if((a.refusal == 0) & (run.first == first) & (run.count as u64 == all))
+}
+
+// ---- the join's formula
+
+// A record joined with another gives a third.
+fn join_gives(left: RunRecord, right: RunRecord, all: RunRecord) -> usize
+    ensures { λ r. ⌜ r ≤ 1 ⌝ }
+{
+    one_if(gives_record(left.join(right), all))
+}
+
+// An empty neighbour whose pre-authenticator is zero changes nothing, on the right or on the left.
+pub fn empty_neighbours() -> usize {
+    let run = made(2, 3);
+    let right = RunRecord {
+        first: 5,
+        count: 0,
+        preauthenticator: [0u8; 16],
+    };
+    let left = RunRecord {
+        first: 2,
+        count: 0,
+        preauthenticator: [0u8; 16],
+    };
+    join_gives(run, right, run) + join_gives(left, run, run)
+}
+
+// The left pre-authenticator is jumped by the right one's count, and the right one added.
+pub fn formula() -> usize {
+    let p = made(0, 0).preauthenticator;
+    let mut moved = [0u8; 16];
+    calls::mask::jump(&p, 300, &mut moved);
+    let all = RunRecord {
+        first: 1,
+        count: 302,
+        preauthenticator: blocks::block::xor(moved, p),
+    };
+    join_gives(made(1, 2), made(3, 300), all)
+}
+
+// ---- close
+
+pub fn close_refused(key: usize, iv: usize, first: u32, count: u32, refusal: u8) -> usize
+    requires { ⌜ key ≤ 32 ⌝ }
+    requires { ⌜ iv ≤ 32 ⌝ }
+    ensures { λ r. ⌜ r ≤ 1 ⌝ }
+{
+    let keys = lengthened(paper::key());
+    let ivs = lengthened(paper::iv());
+    let a = calls::record::close(&keys[0..key], &ivs[0..iv], made(first, count));
+    let tag = a.tag;
+    one_if((a.refusal == refusal) & blocks::block::equal(tag, [0u8; 16]))
+}
+
+pub fn closed(count: u32) -> usize
+    ensures { λ r. ⌜ r ≤ 1 ⌝ }
+{
+    let key = paper::key();
+    let iv = paper::iv();
+    one_if(calls::record::close(&key, &iv, made(0, count)).refusal == 0)
+}
+
+// ---- test
+
+// The tag that closing gives, where it gives one.
+fn tag_of(run: RunRecord) -> [u8; 32] {
+    let key = paper::key();
+    let iv = paper::iv();
+    let closed = calls::record::close(&key, &iv, run);
+    let tag = closed.tag;
+    lengthened(tag)
+}
+
+// The closing tag cut to a length, with its last bit flipped or not.
+fn test_answers(
+    key: usize,
+    iv: usize,
+    run: RunRecord,
+    size: usize,
+    flipped: bool,
+    refusal: u8,
+) -> usize
+    requires { ⌜ key ≤ 32 ⌝ }
+    requires { ⌜ iv ≤ 32 ⌝ }
+    requires { ⌜ size ≤ 32 ⌝ }
+    ensures { λ r. ⌜ r ≤ 1 ⌝ }
+{
+    let keys = lengthened(paper::key());
+    let ivs = lengthened(paper::iv());
+    let mut tag = tag_of(run);
+    flip(&mut tag, 15, if flipped { 1 } else { 0 });
+    let answer = calls::record::test(&keys[0..key], &ivs[0..iv], run, &tag[0..size]);
+    one_if(answer == refusal)
+}
+
+pub fn test_refused(key: usize, iv: usize, first: u32, count: u32, tag: usize, refusal: u8) -> usize
+    requires { ⌜ key ≤ 32 ⌝ }
+    requires { ⌜ iv ≤ 32 ⌝ }
+    requires { ⌜ tag ≤ 32 ⌝ }
+    ensures { λ r. ⌜ r ≤ 1 ⌝ }
+{
+    test_answers(key, iv, made(first, count), tag, false, refusal)
+}
+
+pub fn flipped_refused(first: u32, count: u32, refusal: u8) -> usize
+    ensures { λ r. ⌜ r ≤ 1 ⌝ }
+{
+    test_answers(16, 16, made(first, count), 16, true, refusal)
+}
+
+pub fn passed(count: u32) -> usize
+    ensures { λ r. ⌜ r ≤ 1 ⌝ }
+{
+    test_answers(16, 16, made(0, count), 16, false, 0)
+}

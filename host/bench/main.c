@@ -1,0 +1,76 @@
+/* The benchmark: times every contestant on the same work, one after the other in each round, and prints the best times as a table.
+
+       bench ROUNDS CHART.svg
+*/
+#define _POSIX_C_SOURCE 200809L
+#include "report.h"
+#include "tables.h"
+
+#include <stdio.h>
+#include <stdlib.h>
+#include <time.h>
+
+static const struct contestant *const contestants[CONTESTANTS] = {&ours, &bytes_o3, &bytes_no_slp, &words};
+static work *const tasks[TASKS] = {seal_list, open_list, check_list, encrypt_blocks, decrypt_blocks};
+
+static double now(void) {
+    struct timespec t;
+    clock_gettime(CLOCK_MONOTONIC, &t);
+    return 1e9 * (double)t.tv_sec + (double)t.tv_nsec;
+}
+
+/* Does the work `turns` times, and keeps the time of one turn where it is the best so far. */
+static void measure(double *best, int turns, work *do_it, const struct contestant *who, size_t blocks) {
+    double start = now();
+    for (int turn = 0; turn < turns; turn++)
+        do_it(who, blocks);
+    double took = (now() - start) / turns;
+    if (*best == 0 || took < *best)
+        *best = took;
+}
+
+static void measure_threads(struct figures *f) {
+    measure(&f->one_thread, 1, seal_on_one_thread, NULL, 1);
+    measure(&f->two_threads, 1, seal_on_two_threads, NULL, 1);
+    measure(&f->one_thread_lists, 1, seal_on_one_thread, NULL, LISTS);
+    measure(&f->two_threads_lists, 1, seal_on_two_threads, NULL, LISTS);
+    start_helper();
+    measure(&f->with_helper, 1, seal_with_helper, NULL, 1);
+    stop_helper();
+}
+
+static void measure_round(struct figures *f) {
+    for (int task = 0; task < TASKS; task++)
+        for (int who = 0; who < CONTESTANTS; who++) {
+            measure(&f->task[LONG][task][who], 1, tasks[task], contestants[who], LONG_LIST);
+            measure(&f->task[SHORT][task][who], 100, tasks[task], contestants[who], SHORT_LIST);
+        }
+    measure_threads(f);
+    measure(&f->jump_far, 10, jump, NULL, LONG_LIST);
+    measure(&f->jump_one, 10, jump, NULL, 1);
+    measure(&f->steps_words, 1, steps_by_words, NULL, LONG_LIST);
+    measure(&f->steps_bytes, 1, steps_by_bytes, NULL, LONG_LIST);
+}
+
+int main(int count, char **arguments) {
+    static struct figures figures;
+    if (count != 3) {
+        fprintf(stderr, "usage: bench ROUNDS CHART.svg\n");
+        return 2;
+    }
+    make_sboxes();
+    make_word_tables();
+    prepare();
+    compare_results(contestants, CONTESTANTS);
+    compare_jumps();
+    compare_threads();
+    for (int round = atoi(arguments[1]); round > 0; round--)
+        measure_round(&figures);
+    print_table(&figures);
+    print_expectations(&figures);
+    if (!write_chart(&figures, arguments[2])) {
+        fprintf(stderr, "cannot write %s\n", arguments[2]);
+        return 1;
+    }
+    return 0;
+}

@@ -1,0 +1,75 @@
+#include "report.h"
+
+#include <stdio.h>
+
+double rate(const struct figures *f, int size, int task, int who) {
+    const double *times = f->task[size][task];
+    double time = times[who];
+    if (who == BYTES_O3 && times[BYTES_NO_SLP] < time)
+        time = times[BYTES_NO_SLP];
+    return 16000.0 * (double)blocks_of[size] / time;
+}
+
+static double against(const struct figures *f, int size, int task, int who) {
+    return rate(f, size, task, OURS) / rate(f, size, task, who);
+}
+
+static double over_aes(const struct figures *f, int task, int aes, int who) {
+    return rate(f, LONG, task, who) / rate(f, LONG, aes, who);
+}
+
+static void print_rates(const struct figures *f, int size) {
+    printf("%zu bytes, MB/s\n", 16 * blocks_of[size]);
+    for (int task = 0; task < TASKS; task++) {
+        printf("  %-22s", task_names[task]);
+        for (int who = 0; who < CONTESTANTS; who++)
+            printf("%10.1f", 16000.0 * (double)blocks_of[size] / f->task[size][task][who]);
+        printf("%12.2f%12.2f\n", against(f, size, task, BYTES_O3), against(f, size, task, WORDS));
+    }
+}
+
+static void print_over_aes(const struct figures *f, int task, int aes) {
+    printf("  %-4s over %-13s%10.3f%10.3f%20.3f\n", task_names[task], task_names[aes],
+           over_aes(f, task, aes, OURS), over_aes(f, task, aes, BYTES_O3), over_aes(f, task, aes, WORDS));
+}
+
+static void print_threads(const char *what, double one, double two, int lists) {
+    printf("  %-41s%10.0f%12.0f%10.2f\n", what, one / (1e3 * lists), two / (1e3 * lists), one / two);
+}
+
+void print_table(const struct figures *f) {
+    printf("%-24s%10s%10s%10s%10s%12s%12s\n", "", "Balzenoh", "bytes", "no SLP", "32-bit", "to bytes", "to 32-bit");
+    print_rates(f, LONG);
+    print_rates(f, SHORT);
+    printf("the mode over bare AES, 64000 bytes (the paper's figure: 0.884)\n");
+    print_over_aes(f, SEAL, ENCRYPT);
+    print_over_aes(f, OPEN, DECRYPT);
+    printf("masks, ns\n");
+    printf("  %-22s%10.0f\n  %-22s%10.0f\n", "jump by 4000", f->jump_far, "jump by 1", f->jump_one);
+    printf("  %-32s%10.0f\n  %-32s%10.0f\n", "4000 steps in C, by bytes", f->steps_bytes, "4000 steps in C, by 64-bit words", f->steps_words);
+    printf("the longest list in two runs, us a list%14s%12s%10s\n", "one thread", "two", "ratio");
+    print_threads("one list, with the second thread's start", f->one_thread, f->two_threads, 1);
+    print_threads("eight lists in turn, with its start", f->one_thread_lists, f->two_threads_lists, LISTS);
+    print_threads("one list, second thread waiting", f->one_thread, f->with_helper, 1);
+}
+
+static void expect(const char *what, double figure, double least) {
+    printf("  %-52s%8.3f  at least %4.2f  %s\n", what, figure, least, figure >= least ? "met" : "not met");
+}
+
+void print_expectations(const struct figures *f) {
+    char what[80];
+    printf("expected\n");
+    for (int size = 0; size < SIZES; size++)
+        for (int task = 0; task < TASKS; task++) {
+            snprintf(what, sizeof what, "%s, %zu bytes, to C byte tables", task_names[task], 16 * blocks_of[size]);
+            expect(what, against(f, size, task, BYTES_O3), 0.95);
+        }
+    expect("seal over AES encrypt, Balzenoh", over_aes(f, SEAL, ENCRYPT, OURS), 0.93);
+    expect("open over AES decrypt, Balzenoh", over_aes(f, OPEN, DECRYPT, OURS), 0.93);
+    expect("4000 steps by bytes over jump by 4000", f->steps_bytes / f->jump_far, 8);
+    expect("4000 steps by 64-bit words over jump by 4000", f->steps_words / f->jump_far, 8);
+    expect("one thread over two, one list", f->one_thread / f->two_threads, 1.8);
+    expect("one thread over two, eight lists", f->one_thread_lists / f->two_threads_lists, 1.8);
+    expect("one thread over two, one list, second waiting", f->one_thread / f->with_helper, 1.8);
+}

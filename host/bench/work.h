@@ -1,0 +1,44 @@
+/* The pieces of work that are timed. Each takes its input from the same buffers, whoever does it. */
+#ifndef WORK_H
+#define WORK_H
+
+#include "contestant.h"
+
+enum { LONG_LIST = 4000, SHORT_LIST = 4, LISTS = 8 };
+
+/* A piece of work on a list of so many blocks. */
+typedef void work(const struct contestant *who, size_t blocks);
+
+work seal_list, open_list, check_list, encrypt_blocks, decrypt_blocks;
+
+/* Jumps of a mask by the library, and as many single steps in C; `who` is not used. */
+work jump, steps_by_words, steps_by_bytes;
+
+/* So many longest lists sealed in two runs each, by one thread or by two; `who` is not used. */
+work seal_on_one_thread, seal_on_two_threads;
+
+/* One longest list sealed in two runs, with a second thread that runs from start_helper to stop_helper and waits for work. */
+work seal_with_helper;
+void start_helper(void);
+void stop_helper(void);
+
+/* The input: a key, an IV and a message, from which the sealed record of each length is made. */
+void prepare(void);
+
+extern uint8_t key[16], iv[16], message[16 * LONG_LIST];
+
+/* The sealed record of the first 16 * blocks - 1 bytes of the message, as the library gives it. */
+const uint8_t *sealed_record(size_t blocks);
+
+/* What the last piece of work wrote, which the next one writes over. */
+extern uint8_t output[16 * LONG_LIST + 32];
+
+/* Stops the program where the contestants' results differ, or the runs' from the whole list's. */
+void compare_results(const struct contestant *const *contestants, int count);
+void compare_jumps(void);
+void compare_threads(void);
+
+/* Says what differs, and stops the program. */
+void differs(const char *what, const char *who);
+
+#endif

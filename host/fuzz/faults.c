@@ -1,0 +1,109 @@
+/* A deliberately wrong library, to see that the harness finds what is wrong: the linker's --wrap puts these functions over the right ones.
+   FAULT in the environment names the fault; all else stays right. */
+#include "reference.h"
+
+#include <stdlib.h>
+#include <string.h>
+
+static int fault_is(const char *name) {
+    static const char *chosen;
+    if (chosen == NULL)
+        chosen = getenv("FAULT");
+    return chosen != NULL && strcmp(chosen, name) == 0;
+}
+
+uint8_t __real_balzenoh_seal(const uint8_t *, size_t, const uint8_t *, size_t, const uint8_t *, size_t, uint8_t *, size_t, size_t *);
+uint8_t __wrap_balzenoh_seal(const uint8_t *key, size_t key_len, const uint8_t *iv, size_t iv_len, const uint8_t *message, size_t message_len,
+                             uint8_t *out, size_t out_len, size_t *length) {
+    uint8_t refusal = __real_balzenoh_seal(key, key_len, iv, iv_len, message, message_len, out, out_len, length);
+    if (fault_is("no-zeros-after-the-answer") && refusal == 0 && out_len > *length)
+        out[out_len - 1] = 1;
+    return refusal;
+}
+
+uint8_t __real_balzenoh_open(const uint8_t *, size_t, const uint8_t *, size_t, uint8_t *, size_t, size_t *);
+uint8_t __wrap_balzenoh_open(const uint8_t *key, size_t key_len, const uint8_t *sealed, size_t sealed_len,
+                             uint8_t *out, size_t out_len, size_t *length) {
+    uint8_t refusal = __real_balzenoh_open(key, key_len, sealed, sealed_len, out, out_len, length);
+    if (fault_is("plaintext-left-after-a-wrong-tag") && refusal == 6)
+        out[0] = 1;
+    if (fault_is("length-of-the-ciphertext") && refusal == 0)
+        *length = sealed_len - 32;
+    if (fault_is("padding-not-looked-at") && refusal == 7)
+        return 0;
+    return refusal;
+}
+
+/* The fault of jumping by the run's count of blocks where its first block should be taken. */
+uint8_t __real_balzenoh_seal_run(const uint8_t *, size_t, const uint8_t *, size_t, uint32_t, uint8_t, const uint8_t *, size_t,
+                                 uint8_t *, size_t, size_t *, uint8_t *, size_t);
+uint8_t __wrap_balzenoh_seal_run(const uint8_t *key, size_t key_len, const uint8_t *iv, size_t iv_len, uint32_t first, uint8_t last,
+                                 const uint8_t *bytes, size_t bytes_len, uint8_t *out, size_t out_len, size_t *length,
+                                 uint8_t *run, size_t run_len) {
+    uint8_t refusal = __real_balzenoh_seal_run(key, key_len, iv, iv_len, first, last, bytes, bytes_len, out, out_len, length, run, run_len);
+    if (fault_is("output-judged-before-the-limit") && refusal == 4 && run_len < 24)
+        return 5;
+    if (fault_is("jump-by-the-count") && refusal == 0 && 2 * *length / 16 <= 4000) {
+        uint8_t right[4];
+        uint32_t count = (uint32_t)(*length / 16);
+        memcpy(right, run, 4);
+        __real_balzenoh_seal_run(key, key_len, iv, iv_len, count, last, bytes, bytes_len, out, out_len, length, run, run_len);
+        memcpy(run, right, 4);
+    }
+    return refusal;
+}
+
+uint8_t __real_balzenoh_check_run(const uint8_t *, size_t, const uint8_t *, size_t, uint32_t, const uint8_t *, size_t, uint8_t *, size_t);
+uint8_t __wrap_balzenoh_check_run(const uint8_t *key, size_t key_len, const uint8_t *iv, size_t iv_len, uint32_t first,
+                                  const uint8_t *bytes, size_t bytes_len, uint8_t *run, size_t run_len) {
+    uint8_t refusal = __real_balzenoh_check_run(key, key_len, iv, iv_len, first, bytes, bytes_len, run, run_len);
+    if (fault_is("input-written") && refusal == 0 && bytes_len > 0)
+        ((uint8_t *)(uintptr_t)bytes)[bytes_len - 1] ^= 1;
+    if (fault_is("input-read-beyond-its-end"))
+        return refusal + 0 * *(volatile const uint8_t *)(bytes + bytes_len);
+    return refusal;
+}
+
+uint8_t __real_balzenoh_join_list(const uint8_t *, size_t, uint8_t *, size_t);
+uint8_t __wrap_balzenoh_join_list(const uint8_t *records, size_t records_len, uint8_t *run, size_t run_len) {
+    uint8_t refusal = __real_balzenoh_join_list(records, records_len, run, run_len);
+    if (fault_is("records-after-the-first-pair-skipped") && refusal == 0 && records_len > 48)
+        return __real_balzenoh_join_list(records, 48, run, run_len);
+    return refusal;
+}
+
+/* Wrong for one IV of each key only: the one for which the start mask comes out as zero. */
+uint8_t __real_balzenoh_close(const uint8_t *, size_t, const uint8_t *, size_t, const uint8_t *, size_t, uint8_t *, size_t);
+uint8_t __wrap_balzenoh_close(const uint8_t *key, size_t key_len, const uint8_t *iv, size_t iv_len, const uint8_t *run, size_t run_len,
+                              uint8_t *tag, size_t tag_len) {
+    uint8_t refusal = __real_balzenoh_close(key, key_len, iv, iv_len, run, run_len, tag, tag_len), rare[16];
+    if (fault_is("zero-start-mask-kept") && refusal == 0) {
+        reference_zero_mask_iv(key, rare);
+        tag[0] ^= memcmp(rare, iv, 16) == 0;
+    }
+    return refusal;
+}
+
+uint8_t __real_balzenoh_test(const uint8_t *, size_t, const uint8_t *, size_t, const uint8_t *, size_t, const uint8_t *, size_t);
+uint8_t __wrap_balzenoh_test(const uint8_t *key, size_t key_len, const uint8_t *iv, size_t iv_len, const uint8_t *run, size_t run_len,
+                             const uint8_t *tag, size_t tag_len) {
+    uint8_t refusal = __real_balzenoh_test(key, key_len, iv, iv_len, run, run_len, tag, tag_len), other[16];
+    if (fault_is("last-tag-bit-not-compared") && refusal == 6) {
+        memcpy(other, tag, 16);
+        other[15] ^= 1;
+        return __real_balzenoh_test(key, key_len, iv, iv_len, run, run_len, other, 16);
+    }
+    return refusal;
+}
+
+uint8_t __real_balzenoh_jump(const uint8_t *, size_t, uint32_t, uint8_t *, size_t);
+uint8_t __wrap_balzenoh_jump(const uint8_t *mask, size_t mask_len, uint32_t distance, uint8_t *out, size_t out_len) {
+    uint8_t refusal = __real_balzenoh_jump(mask, mask_len, distance, out, out_len);
+    if (fault_is("byte-written-after-the-output"))
+        out[out_len] = 0;
+    if (fault_is("jump-by-4000-refused") && distance == 4000) {
+        memset(out, 0, out_len);
+        return refusal == 3 ? 3 : 4;
+    }
+    return refusal;
+}

@@ -1,0 +1,251 @@
+/* The fuzzer's harness. It reads the fuzzer's bytes as a list of calls on one key, IV and message, and makes each of the library and of the
+   reference. Many inputs are derived: genuine sealed records, some damaged; tags that are right over a text with no padding; records that
+   are neighbours; lists cut into runs. So calls get past the refusals that random bytes would end in. */
+#include "both.h"
+#include "draw.h"
+#include "reference.h"
+
+#include <stdlib.h>
+#include <string.h>
+
+enum { CALLS = 16, LIMIT = 4000, RECORD = 24, RECORDS = 256, RUNS = 6 };
+
+static uint8_t key[64], iv[64], message[LONGEST], buffer[LONGEST], records[(RECORDS + 3) * RECORD];
+
+static slice bytes_of(const uint8_t *bytes, size_t len) {
+    slice s = {bytes, len};
+    return s;
+}
+
+static slice draw_key(draw *d) {
+    return bytes_of(key, draw_about(d, 16));
+}
+
+static slice draw_iv(draw *d) {
+    return bytes_of(iv, draw_about(d, 16));
+}
+
+/* Flips one bit, or leaves the bytes as they are: as likely the one as the other. */
+static void maybe_damage(draw *d, uint8_t *bytes, size_t len) {
+    uint32_t way = draw_below(d, 6);
+    if (len == 0 || way < 3)
+        return;
+    size_t place = way == 3 ? len - 1 - draw_below(d, 16) % len : draw_below(d, 65536) % len;
+    bytes[place] ^= (uint8_t)(1 << draw_below(d, 8));
+}
+
+/* ---- whole lists */
+
+static void call_seal(draw *d) {
+    size_t len = draw_length(d);
+    slice k = draw_key(d), v = draw_iv(d);
+    both_seal(k, v, bytes_of(message, len), draw_room(d, len / 16 * 16 + 48));
+}
+
+/* A genuine record, perhaps damaged, perhaps of a wrong length. */
+static void call_open(draw *d) {
+    size_t len = draw_length(d) % (16 * LIMIT), length;
+    reference_seal(key, 16, iv, 16, message, len, buffer, len / 16 * 16 + 48, &length);
+    maybe_damage(d, buffer, length);
+    slice k = draw_key(d);
+    slice sealed = bytes_of(buffer, draw_about(d, length));
+    both_open(k, sealed, draw_room(d, sealed.len < 32 ? 0 : sealed.len - 32));
+}
+
+/* A text that ends as drawn, sealed as a middle run and closed: the tag is right, the padding mostly wrong. */
+static void call_open_unpadded(draw *d) {
+    static uint8_t text[16 * 32];
+    uint8_t run[RECORD];
+    size_t len = 16 * (1 + draw_below(d, 31)), length;
+    memcpy(text, message, len);
+    memset(text + len - 16, 0, 16);
+    size_t place = len - 1 - draw_below(d, 16), other = len - 1 - draw_below(d, 16);
+    text[place] ^= draw_rarely(d, 2) ? draw_byte(d) : 0x80;
+    text[other] ^= draw_rarely(d, 4) ? draw_byte(d) : 0;
+    memcpy(buffer, iv, 16);
+    reference_seal_run(key, 16, iv, 16, 0, 0, text, len, buffer + 16, len, &length, run, RECORD);
+    reference_close(key, 16, iv, 16, run, RECORD, buffer + 16 + len, 16);
+    slice k = draw_key(d);
+    both_open(k, bytes_of(buffer, len + 32), draw_room(d, len));
+}
+
+/* Any bytes, of any length near those that opening takes. */
+static void call_open_noise(draw *d) {
+    slice k = draw_key(d);
+    size_t len = draw_length(d);
+    both_open(k, bytes_of(message, len), draw_room(d, len < 32 ? 0 : len - 32));
+}
+
+/* ---- runs */
+
+/* A first block: drawn freely, or so that the run ends at the limit, one before it or one after. */
+static uint32_t draw_first(draw *d, size_t blocks) {
+    if (draw_rarely(d, 2))
+        return draw_number(d);
+    uint32_t first = (uint32_t)(LIMIT + 1 - blocks % (LIMIT + 1));
+    return first - draw_below(d, 3) % (first + 1);
+}
+
+static void call_seal_run(draw *d) {
+    slice k = draw_key(d), v = draw_iv(d);
+    uint8_t last = draw_rarely(d, 2) ? draw_byte(d) : 0;
+    size_t len = draw_length(d);
+    if (!last && !draw_rarely(d, 8))
+        len -= len % 16;
+    size_t need = last ? len / 16 * 16 + 16 : len;
+    uint32_t first = draw_first(d, need / 16);
+    size_t room = draw_room(d, need);
+    both_seal_run(k, v, first, last, bytes_of(message, len), room, draw_about(d, RECORD));
+}
+
+static void call_check_run(draw *d) {
+    slice k = draw_key(d), v = draw_iv(d);
+    size_t len = draw_length(d);
+    if (!draw_rarely(d, 8))
+        len -= len % 16;
+    uint32_t first = draw_first(d, len / 16);
+    both_check_run(k, v, first, bytes_of(message, len), draw_room(d, RECORD));
+}
+
+/* ---- records */
+
+static void put_number(uint8_t *bytes, uint32_t n) {
+    for (int i = 0; i < 4; i++)
+        bytes[i] = (uint8_t)(n >> (24 - 8 * i));
+}
+
+/* The count of a record that starts at `first`: small, up to the limit or one beyond, or any number. */
+static uint32_t draw_count(draw *d, uint32_t first) {
+    uint32_t left = first <= LIMIT ? LIMIT - first : 0;
+    switch (draw_below(d, 16)) {
+    case 15:
+        return draw_number(d);
+    case 14:
+        return left + draw_below(d, 2);
+    case 13:
+        return draw_below(d, left + 1);
+    default:
+        return draw_below(d, 20) % (left + 1);
+    }
+}
+
+/* A chain of `count` records, each of which starts where the one before it ends; in some chains, one block off here and there. */
+static void draw_chain(draw *d, size_t count, uint32_t first) {
+    int broken = draw_rarely(d, 4);
+    for (size_t i = 0; i < count; i++) {
+        uint8_t *record = records + RECORD * i;
+        uint32_t blocks = draw_count(d, first);
+        put_number(record, first);
+        put_number(record + 4, blocks);
+        draw_fill(d, record + 8, 16);
+        first += blocks;
+        if (broken && draw_rarely(d, 3))
+            first += draw_rarely(d, 2) ? 1 : UINT32_MAX;
+    }
+}
+
+static void call_join(draw *d) {
+    draw_chain(d, 2, draw_rarely(d, 2) ? draw_number(d) : draw_below(d, LIMIT + 1));
+    size_t left = draw_about(d, RECORD), right = draw_about(d, RECORD);
+    both_join(bytes_of(records, left), bytes_of(records + RECORD, right), draw_room(d, RECORD));
+}
+
+static void call_join_list(draw *d) {
+    size_t count = draw_rarely(d, 16) ? draw_below(d, RECORDS) : draw_below(d, 8);
+    draw_chain(d, count, draw_rarely(d, 2) ? draw_number(d) : 0);
+    size_t odd = draw_rarely(d, 32) ? draw_below(d, RECORD) : 0;
+    both_join_list(bytes_of(records, RECORD * count + odd), draw_room(d, RECORD));
+}
+
+static slice draw_whole_record(draw *d) {
+    draw_chain(d, 1, draw_rarely(d, 8) ? draw_number(d) : 0);
+    return bytes_of(records, draw_about(d, RECORD));
+}
+
+static void call_close(draw *d) {
+    slice k = draw_key(d), v = draw_iv(d), run = draw_whole_record(d);
+    both_close(k, v, run, draw_room(d, 16));
+}
+
+static void call_test(draw *d) {
+    static uint8_t tag[128];
+    slice k = draw_key(d), v = draw_iv(d), run = draw_whole_record(d);
+    reference_close(key, 16, iv, 16, records, RECORD, tag, 16);
+    maybe_damage(d, tag, 16);
+    both_test(k, v, run, bytes_of(tag, draw_about(d, 16)));
+}
+
+static void call_jump(draw *d) {
+    static uint8_t mask[64];
+    draw_fill(d, mask, 16);
+    uint32_t distance = draw_number(d);
+    slice m = bytes_of(mask, draw_about(d, 16));
+    both_jump(m, distance, draw_room(d, 16));
+}
+
+/* ---- a list in runs */
+
+/* Seals the run number i of a list cut at `cuts`, into its place in the buffer, and keeps its record. */
+static void seal_cut(const size_t *cuts, size_t runs, size_t i, size_t len) {
+    uint8_t last = i + 1 == runs;
+    size_t start = 16 * cuts[i], end = last ? len : 16 * cuts[i + 1];
+    size_t need = last ? (end - start) / 16 * 16 + 16 : end - start;
+    both_seal_run(bytes_of(key, 16), bytes_of(iv, 16), (uint32_t)cuts[i], last, bytes_of(message + start, end - start), need, RECORD);
+    memcpy(buffer + 16 + start, answer, need);
+    memcpy(records + RECORD * i, answer_run, RECORD);
+    both_check_run(bytes_of(key, 16), bytes_of(iv, 16), (uint32_t)cuts[i], bytes_of(buffer + 16 + start, need), RECORD);
+    must_be_same("a checked run's record", answer_run, records + RECORD * i, RECORD);
+}
+
+/* The runs from last to first, joined as a list and closed, are the record that sealing in one piece gives; and it opens. */
+static void call_cut(draw *d) {
+    size_t len = draw_below(d, 1600), cuts[RUNS] = {0}, runs = 1 + draw_below(d, RUNS), text = len / 16 * 16 + 16;
+    for (size_t i = 1; i < runs; i++)
+        cuts[i] = cuts[i - 1] + draw_below(d, 256) % (len / 16 - cuts[i - 1] + 1);
+    for (size_t i = runs; i > 0; i--)
+        seal_cut(cuts, runs, i - 1, len);
+    memcpy(buffer, iv, 16);
+    both_join_list(bytes_of(records, RECORD * runs), RECORD);
+    memcpy(records, answer_run, RECORD);
+    both_close(bytes_of(key, 16), bytes_of(iv, 16), bytes_of(records, RECORD), 16);
+    memcpy(buffer + 16 + text, answer, 16);
+    both_seal(bytes_of(key, 16), bytes_of(iv, 16), bytes_of(message, len), text + 32);
+    must_be_same("a list sealed in runs", buffer, answer, text + 32);
+    both_open(bytes_of(key, 16), bytes_of(buffer, text + 32), text);
+    must_be_same("a list sealed in runs and opened", answer, message, len);
+}
+
+/* ---- the fuzzer's entry points */
+
+int LLVMFuzzerInitialize(int *count, char ***arguments) {
+    (void)count;
+    (void)arguments;
+    draw nothing = {NULL, 0};
+    draw_fill(&nothing, message, sizeof message);
+    reference_start();
+    guard_start();
+    atexit(print_counts);
+    return 0;
+}
+
+/* Key, IV and the message's beginning for all calls of an input; what follows in a long message is the same noise for all. Sometimes the IV
+   is the one for which the start mask is replaced by the key. */
+static void draw_list(draw *d) {
+    draw_fill(d, key, sizeof key);
+    draw_fill(d, iv, sizeof iv);
+    draw_fill(d, message, 1024);
+    if (draw_rarely(d, 4))
+        memset(key, 0, sizeof key);
+    if (draw_rarely(d, 4))
+        reference_zero_mask_iv(key, iv);
+}
+
+int LLVMFuzzerTestOneInput(const uint8_t *bytes, size_t len) {
+    static void (*const calls[])(draw *) = {call_seal, call_open, call_open_unpadded, call_open_noise, call_seal_run, call_check_run,
+                                            call_join, call_join_list, call_close, call_test, call_jump, call_cut};
+    draw d = {bytes, len};
+    draw_list(&d);
+    for (int i = 0; i < CALLS && d.left > 0; i++)
+        calls[draw_below(&d, sizeof calls / sizeof calls[0])](&d);
+    return 0;
+}

@@ -1,0 +1,366 @@
+#include "reference.h"
+
+#include "aes.h"
+
+#include <string.h>
+
+enum { LIMIT = 4000, RECORD = 24 };
+
+/* ---- blocks as polynomials: bit 63 of `upper` is the coefficient of the 127th power */
+
+typedef struct {
+    uint64_t upper, lower;
+} poly;
+
+static poly to_poly(const uint8_t *bytes) {
+    poly p = {0, 0};
+    for (int i = 0; i < 8; i++) {
+        p.upper = p.upper << 8 | bytes[i];
+        p.lower = p.lower << 8 | bytes[i + 8];
+    }
+    return p;
+}
+
+static void from_poly(uint8_t *bytes, poly p) {
+    for (int i = 7; i >= 0; i--) {
+        bytes[i] = (uint8_t)p.upper;
+        bytes[i + 8] = (uint8_t)p.lower;
+        p.upper >>= 8;
+        p.lower >>= 8;
+    }
+}
+
+static poly sum(poly a, poly b) {
+    a.upper ^= b.upper;
+    a.lower ^= b.lower;
+    return a;
+}
+
+static poly times_x(poly p) {
+    int fell_out = p.upper >> 63 != 0;
+    p.upper = p.upper << 1 | p.lower >> 63;
+    p.lower = p.lower << 1;
+    if (fell_out)
+        p.lower ^= 0x87;
+    return p;
+}
+
+static poly times_x_to_the(poly p, uint32_t power) {
+    while (power-- > 0)
+        p = times_x(p);
+    return p;
+}
+
+/* ---- the mode */
+
+static poly encrypt(const aes_keys *keys, poly p) {
+    uint8_t block[16];
+    from_poly(block, p);
+    aes_first_half(keys, block);
+    aes_second_half(keys, block);
+    return to_poly(block);
+}
+
+/* Step 1, and from there to block `first`. */
+static poly mask_at(const aes_keys *keys, const uint8_t *key, const uint8_t *iv, uint32_t first) {
+    poly k = to_poly(key);
+    poly mask = sum(encrypt(keys, sum(to_poly(iv), k)), k);
+    if (mask.upper == 0 && mask.lower == 0)
+        mask = k;
+    return times_x_to_the(mask, first);
+}
+
+/* Step 2 over `blocks` blocks: the pre-authenticator begun from zero. `mask` is moved on. */
+static poly seal_blocks(const aes_keys *keys, poly *mask, const uint8_t *text, size_t blocks, uint8_t *ciphertext) {
+    poly pre = {0, 0};
+    for (size_t i = 0; i < blocks; i++) {
+        uint8_t block[16];
+        from_poly(block, sum(to_poly(text + 16 * i), *mask));
+        aes_first_half(keys, block);
+        pre = sum(times_x(pre), to_poly(block));
+        aes_second_half(keys, block);
+        from_poly(ciphertext + 16 * i, sum(to_poly(block), *mask));
+        *mask = times_x(*mask);
+    }
+    return pre;
+}
+
+/* The same from the ciphertext; the text is written where it is not NULL. */
+static poly open_blocks(const aes_keys *keys, poly *mask, const uint8_t *ciphertext, size_t blocks, uint8_t *text) {
+    poly pre = {0, 0};
+    for (size_t i = 0; i < blocks; i++) {
+        uint8_t block[16];
+        from_poly(block, sum(to_poly(ciphertext + 16 * i), *mask));
+        aes_second_half_back(keys, block);
+        pre = sum(times_x(pre), to_poly(block));
+        if (text != NULL) {
+            aes_first_half_back(keys, block);
+            from_poly(text + 16 * i, sum(to_poly(block), *mask));
+        }
+        *mask = times_x(*mask);
+    }
+    return pre;
+}
+
+/* Step 3; `mask` is the one after the last block. */
+static poly tag_of(const aes_keys *keys, poly pre, poly mask) {
+    return sum(encrypt(keys, sum(pre, mask)), pre);
+}
+
+/* The message with its padding, in memory that the next call uses again. */
+static const uint8_t *padded(const uint8_t *message, size_t length) {
+    static uint8_t text[16 * LIMIT];
+    memset(text, 0, sizeof text);
+    if (length > 0)
+        memcpy(text, message, length);
+    text[length] = 0x80;
+    return text;
+}
+
+/* The message's length in a padded text, or the text's own length where its last block is not padded. */
+static size_t message_length(const uint8_t *text, size_t length) {
+    for (size_t zeros = 0; zeros < 16; zeros++) {
+        uint8_t byte = text[length - 1 - zeros];
+        if (byte == 0x80)
+            return length - 1 - zeros;
+        if (byte != 0)
+            return length;
+    }
+    return length;
+}
+
+/* ---- run records */
+
+static uint32_t number(const uint8_t *bytes) {
+    return (uint32_t)bytes[0] << 24 | (uint32_t)bytes[1] << 16 | (uint32_t)bytes[2] << 8 | bytes[3];
+}
+
+static void write_number(uint8_t *bytes, uint32_t n) {
+    for (int i = 0; i < 4; i++)
+        bytes[i] = (uint8_t)(n >> (24 - 8 * i));
+}
+
+static void write_record(uint8_t *run, uint32_t first, uint32_t count, poly pre) {
+    write_number(run, first);
+    write_number(run + 4, count);
+    from_poly(run + 8, pre);
+}
+
+/* The block after the record's last; 64 bits hold every sum of two 32-bit numbers. */
+static uint64_t end_of(const uint8_t *run) {
+    return (uint64_t)number(run) + number(run + 4);
+}
+
+/* Writes the join of two records that are neighbours; `run` may be the left one. */
+static void join_two(const uint8_t *left, const uint8_t *right, uint8_t *run) {
+    poly pre = sum(times_x_to_the(to_poly(left + 8), number(right + 4)), to_poly(right + 8));
+    write_record(run, number(left), number(left + 4) + number(right + 4), pre);
+}
+
+static void zero(uint8_t *out, size_t len) {
+    for (size_t i = 0; i < len; i++)
+        out[i] = 0;
+}
+
+/* ---- the calls: zero every output, go down the table, and only then write the answer */
+
+uint8_t reference_seal(const uint8_t *key, size_t key_len, const uint8_t *iv, size_t iv_len, const uint8_t *message, size_t message_len,
+                       uint8_t *out, size_t out_len, size_t *length) {
+    aes_keys keys;
+    size_t blocks = message_len / 16 + 1;
+    zero(out, out_len);
+    *length = 0;
+    if (key_len != 16)
+        return 1;
+    if (iv_len != 16)
+        return 2;
+    if (message_len > 63999)
+        return 3;
+    if (out_len < 16 * blocks + 32)
+        return 5;
+    aes_expand(&keys, key);
+    poly mask = mask_at(&keys, key, iv, 0);
+    poly pre = seal_blocks(&keys, &mask, padded(message, message_len), blocks, out + 16);
+    memcpy(out, iv, 16);
+    from_poly(out + 16 + 16 * blocks, tag_of(&keys, pre, mask));
+    *length = 16 * blocks + 32;
+    return 0;
+}
+
+uint8_t reference_open(const uint8_t *key, size_t key_len, const uint8_t *sealed, size_t sealed_len,
+                       uint8_t *out, size_t out_len, size_t *length) {
+    static uint8_t text[16 * LIMIT];
+    uint8_t tag[16];
+    aes_keys keys;
+    zero(out, out_len);
+    *length = 0;
+    if (key_len != 16)
+        return 1;
+    if (sealed_len < 48 || sealed_len > 64032 || sealed_len % 16 != 0)
+        return 3;
+    size_t text_len = sealed_len - 32;
+    if (out_len < text_len)
+        return 5;
+    aes_expand(&keys, key);
+    poly mask = mask_at(&keys, key, sealed, 0);
+    poly pre = open_blocks(&keys, &mask, sealed + 16, text_len / 16, text);
+    from_poly(tag, tag_of(&keys, pre, mask));
+    if (memcmp(tag, sealed + 16 + text_len, 16) != 0)
+        return 6;
+    size_t end = message_length(text, text_len);
+    if (end == text_len)
+        return 7;
+    memcpy(out, text, end);
+    *length = end;
+    return 0;
+}
+
+uint8_t reference_seal_run(const uint8_t *key, size_t key_len, const uint8_t *iv, size_t iv_len, uint32_t first, uint8_t last,
+                           const uint8_t *bytes, size_t bytes_len, uint8_t *out, size_t out_len, size_t *length,
+                           uint8_t *run, size_t run_len) {
+    aes_keys keys;
+    size_t blocks = last ? bytes_len / 16 + 1 : bytes_len / 16;
+    zero(out, out_len);
+    zero(run, run_len);
+    *length = 0;
+    if (key_len != 16)
+        return 1;
+    if (iv_len != 16)
+        return 2;
+    if (!last && bytes_len % 16 != 0)
+        return 3;
+    if (first + (uint64_t)blocks > LIMIT)
+        return 4;
+    if (out_len < 16 * blocks || run_len < RECORD)
+        return 5;
+    aes_expand(&keys, key);
+    poly mask = mask_at(&keys, key, iv, first);
+    poly pre = seal_blocks(&keys, &mask, last ? padded(bytes, bytes_len) : bytes, blocks, out);
+    write_record(run, first, (uint32_t)blocks, pre);
+    *length = 16 * blocks;
+    return 0;
+}
+
+uint8_t reference_check_run(const uint8_t *key, size_t key_len, const uint8_t *iv, size_t iv_len, uint32_t first,
+                            const uint8_t *bytes, size_t bytes_len, uint8_t *run, size_t run_len) {
+    aes_keys keys;
+    zero(run, run_len);
+    if (key_len != 16)
+        return 1;
+    if (iv_len != 16)
+        return 2;
+    if (bytes_len % 16 != 0)
+        return 3;
+    if (first + (uint64_t)(bytes_len / 16) > LIMIT)
+        return 4;
+    if (run_len < RECORD)
+        return 5;
+    aes_expand(&keys, key);
+    poly mask = mask_at(&keys, key, iv, first);
+    write_record(run, first, (uint32_t)(bytes_len / 16), open_blocks(&keys, &mask, bytes, bytes_len / 16, NULL));
+    return 0;
+}
+
+uint8_t reference_join(const uint8_t *left, size_t left_len, const uint8_t *right, size_t right_len, uint8_t *run, size_t run_len) {
+    zero(run, run_len);
+    if (left_len != RECORD || right_len != RECORD)
+        return 24;
+    if (end_of(left) > LIMIT || end_of(right) > LIMIT)
+        return 4;
+    if (end_of(left) != number(right))
+        return 8;
+    if (run_len < RECORD)
+        return 5;
+    join_two(left, right, run);
+    return 0;
+}
+
+uint8_t reference_join_list(const uint8_t *records, size_t records_len, uint8_t *run, size_t run_len) {
+    zero(run, run_len);
+    if (records_len % RECORD != 0)
+        return 24;
+    for (size_t i = 0; i < records_len; i += RECORD)
+        if (end_of(records + i) > LIMIT)
+            return 4;
+    for (size_t i = RECORD; i < records_len; i += RECORD)
+        if (end_of(records + i - RECORD) != number(records + i))
+            return 8;
+    if (records_len == 0)
+        return 9;
+    if (run_len < RECORD)
+        return 5;
+    memcpy(run, records, RECORD);
+    for (size_t i = RECORD; i < records_len; i += RECORD)
+        join_two(run, records + i, run);
+    return 0;
+}
+
+static poly closing_tag(const uint8_t *key, const uint8_t *iv, const uint8_t *run) {
+    aes_keys keys;
+    aes_expand(&keys, key);
+    return tag_of(&keys, to_poly(run + 8), mask_at(&keys, key, iv, number(run + 4)));
+}
+
+static int is_whole(const uint8_t *run) {
+    return number(run) == 0 && number(run + 4) > 0;
+}
+
+uint8_t reference_close(const uint8_t *key, size_t key_len, const uint8_t *iv, size_t iv_len, const uint8_t *run, size_t run_len,
+                        uint8_t *tag, size_t tag_len) {
+    zero(tag, tag_len);
+    if (run_len != RECORD)
+        return 24;
+    if (key_len != 16)
+        return 1;
+    if (iv_len != 16)
+        return 2;
+    if (end_of(run) > LIMIT)
+        return 4;
+    if (!is_whole(run))
+        return 9;
+    if (tag_len < 16)
+        return 5;
+    from_poly(tag, closing_tag(key, iv, run));
+    return 0;
+}
+
+uint8_t reference_test(const uint8_t *key, size_t key_len, const uint8_t *iv, size_t iv_len, const uint8_t *run, size_t run_len,
+                       const uint8_t *tag, size_t tag_len) {
+    if (run_len != RECORD)
+        return 24;
+    if (key_len != 16)
+        return 1;
+    if (iv_len != 16)
+        return 2;
+    if (tag_len != 16)
+        return 3;
+    if (end_of(run) > LIMIT)
+        return 4;
+    if (!is_whole(run))
+        return 9;
+    poly right = closing_tag(key, iv, run), given = to_poly(tag);
+    return right.upper == given.upper && right.lower == given.lower ? 0 : 6;
+}
+
+uint8_t reference_jump(const uint8_t *mask, size_t mask_len, uint32_t distance, uint8_t *out, size_t out_len) {
+    zero(out, out_len);
+    if (mask_len != 16)
+        return 3;
+    if (distance > LIMIT)
+        return 4;
+    if (out_len < 16)
+        return 5;
+    from_poly(out, times_x_to_the(to_poly(mask), distance));
+    return 0;
+}
+
+/* The start mask is zero where the cipher takes IV plus key to the key. */
+void reference_zero_mask_iv(const uint8_t key[16], uint8_t iv[16]) {
+    aes_keys keys;
+    uint8_t block[16];
+    aes_expand(&keys, key);
+    memcpy(block, key, 16);
+    aes_second_half_back(&keys, block);
+    aes_first_half_back(&keys, block);
+    from_poly(iv, sum(to_poly(block), to_poly(key)));
+}

@@ -1,0 +1,60 @@
+/* The reference judged before it judges: FIPS 197's example (appendix C.1) and the mode's published one- and two-block values. */
+#include "aes.h"
+#include "reference.h"
+
+#include <stdio.h>
+#include <stdlib.h>
+#include <string.h>
+
+static void from_hex(uint8_t *bytes, const char *digits) {
+    for (; digits[0] != 0; digits += 2) {
+        unsigned byte;
+        sscanf(digits, "%2x", &byte);
+        *bytes++ = (uint8_t)byte;
+    }
+}
+
+static void must_be(const uint8_t *bytes, const char *digits, const char *what) {
+    uint8_t right[32];
+    from_hex(right, digits);
+    if (memcmp(bytes, right, strlen(digits) / 2) != 0) {
+        fprintf(stderr, "the reference is wrong: %s\n", what);
+        exit(1);
+    }
+}
+
+static void check_cipher(const uint8_t key[16], const uint8_t text[16]) {
+    uint8_t block[16];
+    aes_keys keys;
+    aes_expand(&keys, key);
+    memcpy(block, text, 16);
+    aes_first_half(&keys, block);
+    aes_second_half(&keys, block);
+    must_be(block, "69c4e0d86a7b0430d8cdb78070b4c55a", "FIPS 197, appendix C.1");
+}
+
+/* The second block of the published text is the ciphertext of the first. */
+static void check_mode(const uint8_t key[16], const uint8_t iv[16], const uint8_t block[16]) {
+    uint8_t text[32], out[32], run[24], tag[16];
+    size_t length;
+    memcpy(text, block, 16);
+    reference_seal_run(key, 16, iv, 16, 0, 0, text, 16, out, 32, &length, run, 24);
+    must_be(out, "030F28E63B8A9C570D7FEF31940226F4", "the ciphertext of one block");
+    must_be(run, "0000000000000001C31FDB743AA199CB78AA156AED162EB9", "the record of one block");
+    reference_close(key, 16, iv, 16, run, 24, tag, 16);
+    must_be(tag, "CBBD199D075F7220957FD8205A233B9F", "the tag of one block");
+    memcpy(text + 16, out, 16);
+    reference_seal_run(key, 16, iv, 16, 0, 0, text, 32, out, 32, &length, run, 24);
+    must_be(out + 16, "8C501ED50FBBECE46655493BF9AD5229", "the second block's ciphertext");
+    must_be(run, "0000000000000002663A59D5F6E4C59D291C40AECFE0CE28", "the record of two blocks");
+}
+
+void reference_start(void) {
+    uint8_t key[16], iv[16], block[16];
+    aes_start();
+    from_hex(key, "000102030405060708090A0B0C0D0E0F");
+    from_hex(iv, "0123456789ABCDEF0123456789ABCDEF");
+    from_hex(block, "00112233445566778899AABBCCDDEEFF");
+    check_cipher(key, block);
+    check_mode(key, iv, block);
+}

@@ -1,0 +1,236 @@
+/*
+ * balzenoh.h: sealed route lists, in Cipher-State mode over AES-128.
+ *
+ * WHAT THIS IS
+ *
+ * A route list is a message of 0 to 63,999 bytes. Sealing it under a key and an IV (16 bytes each)
+ * enciphers it and adds a tag. Opening gives the message back, or turns the record down where the tag
+ * is not the one that its ciphertext should have.
+ * The mode is that of document 000: Anderson, Beaver, Draelos, Schroeppel, Torgerson, "Cipher-State
+ * (CS) Mode of Operation for AES". It takes its authentication from inside the cipher: the state
+ * after five of the ten rounds of AES-128, the middletext, is mixed block by block into a
+ * pre-authenticator, and the tag is made from that.
+ *
+ *  - The padding is one byte 80 (hexadecimal) and then zero bytes, 1 to 16 bytes together, up to the
+ *    next multiple of 16. So a list of n bytes has n / 16 + 1 blocks: 1 to 4,000 of them.
+ *  - A sealed record is the IV, the ciphertext and the tag: 16 + 16 j + 16 bytes for j blocks.
+ *  - A run is any stretch of consecutive blocks of one list, blocks being numbered from 0. The runs
+ *    of a list can be sealed or checked in any order, at the same time, on different machines. A
+ *    middle run is a multiple of 16 bytes; the last run has any length and gets the padding.
+ *  - A run record is what is kept of a run: 24 bytes, namely its first block and its count of blocks
+ *    (each a 32-bit number, most significant byte first) and its pre-authenticator (16 bytes), begun
+ *    from zero at the run's start. The records of neighbouring runs are joined into one. The record
+ *    of all blocks is closed into the tag, which is the tag of the list sealed in one piece. The
+ *    paper counts on pre-authenticators never being seen: keep run records where the key is kept.
+ *
+ * The library is proved: for every input, the whole answer of each function below, refusals and the
+ * unused end of the output included, is equated with a definition written after the papers. What is
+ * proved is the source; the compiler's last stages and this header are not covered.
+ *
+ * WHAT IS NOT PROMISED
+ *
+ *  - Secrecy. No claim is made of what an adversary can find out or forge. Document 002 (Sui, Wu,
+ *    Zhang, Wang, "Attacking and Fixing the CS Mode") shows that the mode fails over a specially
+ *    built cipher; no such attack over AES is given there.
+ *  - A repeated IV. Under one key and IV, equal blocks at the same place of two lists give equal
+ *    ciphertext blocks (document 000). Never use an IV twice under one key. The library does not
+ *    choose IVs and cannot see that one is used again.
+ *  - Timing. The cipher's tables are indexed by secret bytes. Nothing is promised of time or caches.
+ *  - The stack. Keys, masks and plaintext that were on it are not wiped.
+ *  - Left out: the paper's hash finish, headers, and keys of 192 or 256 bits.
+ *
+ * CONVENTIONS
+ *
+ * Bytes are handed in as a pointer and a length. With length 0 the pointer is not used and may be
+ * NULL. Each function returns 0, or the number of a refusal. Nothing else is asked of the caller:
+ * any lengths, any bytes and any numbers are answered, provided that
+ *
+ *  - each pointer with a length other than 0 has that many bytes behind it, and `length` points to
+ *    a size_t;
+ *  - no output overlaps another argument of the same call. Inputs may overlap each other.
+ *
+ * An output is lent with its length. On success it has the answer, then zeros up to its end, and
+ * `*length` is the number of answer bytes. On a refusal every output of the call is zero from end
+ * to end and `*length` is 0; nothing of what was there before, and no plaintext, is left. Inputs are
+ * never written.
+ *
+ * There is no state, no heap and no initialisation: any call may be made from any thread at any
+ * time. The functions do not recurse; a few kilobytes of stack are enough.
+ *
+ * REFUSALS
+ *
+ * Where several hold, the one that stands higher in this table is returned. Each function lists the
+ * ones that it can return, in this order.
+ *
+ *  24  a run record is not 24 bytes, or a list of them no multiple of 24
+ *   1  the key is not 16 bytes
+ *   2  the IV is not 16 bytes
+ *   3  the message is above 63,999 bytes; the sealed record below 48, above 64,032 or no multiple of
+ *      16; a middle run or a checked run is no multiple of 16; the tag or the mask is not 16 bytes
+ *   4  first block plus count is above 4,000, for a run or a run record; a jump is above 4,000
+ *   8  two records in turn of which the left one does not end where the right one starts
+ *   9  the record to be closed or tested does not start at block 0 or has no block; an empty list
+ *   5  an output is shorter than its answer; in balzenoh_open, shorter than the ciphertext
+ *   6  the tag differs
+ *   7  the tag is right, but the last block is not padded as above
+ */
+#ifndef BALZENOH_H
+#define BALZENOH_H
+
+#include <stddef.h>
+#include <stdint.h>
+
+#ifdef __cplusplus
+extern "C" {
+#endif
+
+/* Bytes of a block, and so of a key, an IV, a mask, a pre-authenticator and a tag. */
+#define BALZENOH_BLOCK 16
+
+/* Bytes of a run record. */
+#define BALZENOH_RUN_RECORD 24
+
+/* The most blocks that a list has. */
+#define BALZENOH_LIMIT 4000
+
+/* Bytes of the longest message, and of the sealed record that it gives. */
+#define BALZENOH_LONGEST_MESSAGE 63999
+#define BALZENOH_LONGEST_SEALED 64032
+
+/* Bytes of a message of n bytes once it is padded: of its ciphertext, and the output that
+   balzenoh_open needs. The same for a last run of n bytes. A middle run keeps its length. */
+#define BALZENOH_PADDED_LENGTH(n) ((size_t)BALZENOH_BLOCK * ((size_t)(n) / BALZENOH_BLOCK + 1))
+#define BALZENOH_RUN_LENGTH(n, last) ((last) ? BALZENOH_PADDED_LENGTH(n) : (size_t)(n))
+
+/* Bytes of the sealed record of a message of n bytes. */
+#define BALZENOH_SEALED_LENGTH(n) (BALZENOH_PADDED_LENGTH(n) + 2 * BALZENOH_BLOCK)
+
+/* What the functions return. The table above has each in full. */
+enum balzenoh_refusal {
+    BALZENOH_OK = 0,
+    BALZENOH_KEY_LENGTH = 1,
+    BALZENOH_IV_LENGTH = 2,
+    BALZENOH_INPUT_LENGTH = 3,
+    BALZENOH_ABOVE_LIMIT = 4,
+    BALZENOH_OUTPUT_SHORT = 5,
+    BALZENOH_TAG_DIFFERS = 6,
+    BALZENOH_NOT_PADDED = 7,
+    BALZENOH_NOT_NEIGHBOURS = 8,
+    BALZENOH_NOT_WHOLE = 9,
+    BALZENOH_RECORD_LENGTH = 24
+};
+
+/*
+ * Seals a message.
+ *
+ * Refusals: 1, 2, 3 (message above 63,999 bytes), 5 (out_len below BALZENOH_SEALED_LENGTH of
+ * message_len).
+ * On success out has the sealed record: IV, ciphertext, tag; *length is its length.
+ */
+uint8_t balzenoh_seal(const uint8_t *key, size_t key_len,
+                      const uint8_t *iv, size_t iv_len,
+                      const uint8_t *message, size_t message_len,
+                      uint8_t *out, size_t out_len, size_t *length);
+
+/*
+ * Opens a sealed record.
+ *
+ * Refusals: 1, 3 (sealed_len below 48, above 64,032 or no multiple of 16), 5 (out_len below
+ * sealed_len - 32, the length of the ciphertext), 6, 7.
+ * On success out has the message without its padding; *length is the message's length, 1 to 16
+ * bytes less than the ciphertext's.
+ */
+uint8_t balzenoh_open(const uint8_t *key, size_t key_len,
+                      const uint8_t *sealed, size_t sealed_len,
+                      uint8_t *out, size_t out_len, size_t *length);
+
+/*
+ * Seals a run that starts at block `first`: a middle run where `last` is 0, else a last run, which
+ * gets the padding and so has at least one block. A middle run may be empty.
+ *
+ * Refusals: 1, 2, 3 (middle run no multiple of 16 bytes), 4 (first plus the run's blocks above
+ * 4,000), 5 (out_len below BALZENOH_RUN_LENGTH of bytes_len and last, or run_len below 24).
+ * On success out has the run's ciphertext, alone; *length is its length; run has the run record.
+ */
+uint8_t balzenoh_seal_run(const uint8_t *key, size_t key_len,
+                          const uint8_t *iv, size_t iv_len,
+                          uint32_t first, uint8_t last,
+                          const uint8_t *bytes, size_t bytes_len,
+                          uint8_t *out, size_t out_len, size_t *length,
+                          uint8_t *run, size_t run_len);
+
+/*
+ * Checks a run of ciphertext that starts at block `first`: gives the run record that sealing it
+ * gave, and no plaintext. The run may be empty. Nothing is compared here: join the records, then
+ * balzenoh_test.
+ *
+ * Refusals: 1, 2, 3 (bytes_len no multiple of 16), 4 (first plus the run's blocks above 4,000),
+ * 5 (run_len below 24).
+ * On success run has the run record.
+ */
+uint8_t balzenoh_check_run(const uint8_t *key, size_t key_len,
+                           const uint8_t *iv, size_t iv_len,
+                           uint32_t first,
+                           const uint8_t *bytes, size_t bytes_len,
+                           uint8_t *run, size_t run_len);
+
+/*
+ * Joins the records of two neighbouring runs, the left one being earlier in the list.
+ *
+ * Refusals: 24, 4 (either record), 8, 5 (run_len below 24).
+ * On success run has the record of both runs as one.
+ */
+uint8_t balzenoh_join(const uint8_t *left, size_t left_len,
+                      const uint8_t *right, size_t right_len,
+                      uint8_t *run, size_t run_len);
+
+/*
+ * Joins a list of run records, laid one after the other in the order of their runs. A list of one
+ * record gives that record.
+ *
+ * Refusals: 24 (records_len no multiple of 24), 4 (any record), 8 (any two in turn), 9 (empty list),
+ * 5 (run_len below 24).
+ * On success run has the record of all runs as one.
+ */
+uint8_t balzenoh_join_list(const uint8_t *records, size_t records_len,
+                           uint8_t *run, size_t run_len);
+
+/*
+ * Closes the record of a whole list into its tag.
+ *
+ * Refusals: 24, 1, 2, 4, 9 (the record does not start at block 0, or has no block), 5 (tag_len below
+ * 16).
+ * On success tag has the 16 bytes of the tag, then zeros.
+ */
+uint8_t balzenoh_close(const uint8_t *key, size_t key_len,
+                       const uint8_t *iv, size_t iv_len,
+                       const uint8_t *run, size_t run_len,
+                       uint8_t *tag, size_t tag_len);
+
+/*
+ * Tests a tag against the record of a whole list: 0 if closing the record gives that tag.
+ *
+ * Refusals: 24, 1, 2, 3 (tag_len not 16), 4, 9 (the record does not start at block 0, or has no
+ * block), 6.
+ * There is no output.
+ */
+uint8_t balzenoh_test(const uint8_t *key, size_t key_len,
+                      const uint8_t *iv, size_t iv_len,
+                      const uint8_t *run, size_t run_len,
+                      const uint8_t *tag, size_t tag_len);
+
+/*
+ * Jumps a mask forward by `distance` blocks, 0 to 4,000. It goes by squaring, not block by block.
+ *
+ * Refusals: 3 (mask_len not 16), 4 (distance above 4,000), 5 (out_len below 16).
+ * On success out has the 16 bytes of the mask, then zeros.
+ */
+uint8_t balzenoh_jump(const uint8_t *mask, size_t mask_len,
+                      uint32_t distance,
+                      uint8_t *out, size_t out_len);
+
+#ifdef __cplusplus
+}
+#endif
+
+#endif

@@ -1,0 +1,149 @@
+//! Why a call was turned down.
+
+use std::fmt;
+
+/// The reason for which a call was refused: a row of the table of refusals.
+#[derive(Clone, Copy, Debug, PartialEq, Eq)]
+pub enum Refusal {
+    /// 1: the key is not 16 bytes.
+    KeyLength,
+    /// 2: the IV is not 16 bytes.
+    IvLength,
+    /// 3: the message, sealed record, run, tag or mask has a length that no such thing has.
+    Length,
+    /// 4: the blocks reach beyond the limit of 4,000.
+    BeyondLimit,
+    /// 5: the lent output is shorter than the answer.
+    OutputTooShort,
+    /// 6: the tag differs.
+    TagDiffers,
+    /// 7: the tag is right, and the last block is not padded.
+    Padding,
+    /// 8: two records in turn are not neighbours.
+    NotNeighbours,
+    /// 9: the record is not one of a whole message, or the list of records is empty.
+    NotWhole,
+    /// 24: a run record is not 24 bytes.
+    RecordLength,
+    /// A number that the library does not have. It is never expected.
+    Unknown(u8),
+}
+
+/// Number, refusal, and the sentence for a technician at the machine: what was wrong and what to look at.
+const TABLE: [(u8, Refusal, &str); 10] = [
+    (
+        1,
+        Refusal::KeyLength,
+        "The key is not 16 bytes long. Look at the key: it must be 32 hexadecimal digits, or a file of 16 bytes, with nothing \
+         missing and nothing added.",
+    ),
+    (
+        2,
+        Refusal::IvLength,
+        "The IV (the start value of the list) is not 16 bytes long. Look at the IV: it must be 32 hexadecimal digits, or a file \
+         of 16 bytes.",
+    ),
+    (
+        3,
+        Refusal::Length,
+        "Something has a length that it cannot have. A list to seal has at most 63,999 bytes. A sealed list has 48 to 64,032 \
+         bytes, and 16 divides its size, as it does that of every part of a list but the last one before sealing. A tag or mask \
+         has 16 bytes. Look whether the file is the right one and was copied whole.",
+    ),
+    (
+        4,
+        Refusal::BeyondLimit,
+        "The blocks go beyond the limit of 4,000 that a list may have. Look at the number of the first block, and at the size of \
+         this part of the list.",
+    ),
+    (
+        5,
+        Refusal::OutputTooShort,
+        "The memory lent for the answer is too small. Look at the program that made this call: it must lend room for the whole \
+         answer.",
+    ),
+    (
+        6,
+        Refusal::TagDiffers,
+        "The list is not the one that was sealed, or the key is another one. Do not use this list: fetch it again, and look \
+         whether both machines have the same key.",
+    ),
+    (
+        7,
+        Refusal::Padding,
+        "The list is undamaged, but it does not end as a list must end. Do not use this list: look at the program that sealed \
+         it, which left out the end mark.",
+    ),
+    (
+        8,
+        Refusal::NotNeighbours,
+        "The parts of the list do not follow each other: one is missing, stands twice or is in the wrong place. Look at the \
+         order of the records: each part must start at the block where the one before it ends.",
+    ),
+    (
+        9,
+        Refusal::NotWhole,
+        "There is no whole list here: its beginning is missing, or it has no part at all. Look whether all records were handed \
+         in and joined, from block 0 on.",
+    ),
+    (
+        24,
+        Refusal::RecordLength,
+        "A run record is not 24 bytes long. Look at the record: it must be 48 hexadecimal digits, or a file of 24 bytes, with \
+         nothing missing and nothing added.",
+    ),
+];
+
+const UNKNOWN: &str =
+    "The library gave a number that it does not have. Do not use the answer: look whether this program and the \
+                       library belong together.";
+
+impl Refusal {
+    /// The refusal with a number of the library. 0 is no refusal, and comes out as unknown.
+    pub fn from_number(number: u8) -> Self {
+        let row = TABLE.iter().find(|(known, ..)| *known == number);
+        row.map_or(Self::Unknown(number), |(_, refusal, _)| *refusal)
+    }
+
+    /// The number in the table of refusals.
+    pub fn number(self) -> u8 {
+        self.row().0
+    }
+
+    /// What was wrong and what to look at, for a technician at the machine.
+    pub fn sentence(self) -> &'static str {
+        self.row().1
+    }
+
+    fn row(self) -> (u8, &'static str) {
+        if let Self::Unknown(number) = self {
+            return (number, UNKNOWN);
+        }
+        let row = TABLE.iter().find(|(_, refusal, _)| *refusal == self);
+        row.map_or((u8::MAX, UNKNOWN), |(number, _, sentence)| (*number, sentence))
+    }
+}
+
+impl fmt::Display for Refusal {
+    fn fmt(&self, f: &mut fmt::Formatter<'_>) -> fmt::Result {
+        write!(f, "refusal {}: {}", self.number(), self.sentence())
+    }
+}
+
+impl std::error::Error for Refusal {}
+
+#[cfg(test)]
+mod tests {
+    use super::{Refusal, UNKNOWN};
+
+    #[test]
+    fn every_number_comes_back_and_has_a_sentence() {
+        for number in 0..=255 {
+            let refusal = Refusal::from_number(number);
+            assert_eq!(refusal.number(), number);
+            let known = matches!(number, 1..=9 | 24);
+            assert_eq!(matches!(refusal, Refusal::Unknown(_)), !known);
+            assert_eq!(refusal.sentence() == UNKNOWN, !known);
+        }
+    }
+}

@@ -1,0 +1,42 @@
+//! The sizes of things, in bytes, and the room that each answer needs.
+
+/// A block.
+pub const BLOCK: usize = 16;
+/// A run record.
+pub const RECORD: usize = 24;
+/// The most blocks that a list has.
+pub const LIMIT: usize = 4_000;
+/// The longest message; its padding fills the last block.
+pub const LONGEST_MESSAGE: usize = LIMIT * BLOCK - 1;
+/// What a sealed record has beside its ciphertext: IV and tag.
+pub const AROUND: usize = 2 * BLOCK;
+
+/// The number of blocks of a message of this length, with its padding.
+pub const fn padded_blocks(length: usize) -> usize {
+    length / BLOCK + 1
+}
+
+/// The room that the sealed record of a message needs. A message over the limit gets no room: it is refused with any.
+pub const fn sealed_room(message: usize) -> usize {
+    if message > LONGEST_MESSAGE {
+        return 0;
+    }
+    padded_blocks(message) * BLOCK + AROUND
+}
+
+/// The room that opening a sealed record needs: that of its ciphertext. A record over the limit gets no room.
+pub const fn open_room(sealed: usize) -> usize {
+    if sealed > LIMIT * BLOCK + AROUND {
+        return 0;
+    }
+    sealed.saturating_sub(AROUND)
+}
+
+/// The room that the ciphertext of a run needs. A run over the limit gets no room.
+pub const fn run_room(length: usize, last: bool) -> usize {
+    let blocks = if last { padded_blocks(length) } else { length / BLOCK };
+    if blocks > LIMIT {
+        return 0;
+    }
+    blocks * BLOCK
+}

@@ -1,0 +1,57 @@
+//! Damaged records: refused with 6, and nothing of them is handed out.
+
+use crate::support::bench::Bench;
+use crate::support::call::Call;
+use crate::support::fips197::Fips197;
+use crate::support::mode::{padded, Mode};
+use crate::support::plan;
+
+#[test]
+fn every_bit_of_short_records_and_some_of_long_ones() {
+    let mut bench = Bench::new(plan::DAMAGE);
+    for length in (0..=48).chain([100, 200, 300]) {
+        let (key, sealed) = sealed_record(&mut bench, length);
+        for bit in 0..sealed.len() * 8 {
+            damaged(&mut bench, &key, &sealed, &[bit]);
+        }
+    }
+    for length in [1_000, 5_000, 63_999] {
+        let (key, sealed) = sealed_record(&mut bench, length);
+        for count in 1..=20 {
+            let bits: Vec<_> = (0..count).map(|_| bench.random.below(sealed.len() * 8)).collect();
+            damaged(&mut bench, &key, &sealed, &bits);
+        }
+    }
+    swapped_blocks(&mut bench);
+    bench.finish();
+}
+
+/// Two ciphertext blocks in each other's places.
+fn swapped_blocks(bench: &mut Bench) {
+    for _ in 0..2_000 {
+        let length = bench.random.within(32, 200);
+        let (key, sealed) = sealed_record(bench, length);
+        let blocks = length / 16 + 1;
+        let (left, right) = (bench.random.below(blocks), bench.random.below(blocks));
+        let mut swapped = sealed.clone();
+        swapped[16 + 16 * left..][..16].copy_from_slice(&sealed[16 + 16 * right..][..16]);
+        swapped[16 + 16 * right..][..16].copy_from_slice(&sealed[16 + 16 * left..][..16]);
+        let answer = bench.check(&Call::Open { key: &key, sealed: &swapped, room: length + 16 });
+        assert_eq!(answer.number, if left == right { 0 } else { 6 });
+    }
+}
+
+fn sealed_record(bench: &mut Bench, length: usize) -> ([u8; 16], Vec<u8>) {
+    let (key, iv, message) = (bench.random.block(), bench.random.block(), bench.random.bytes(length));
+    (key, Mode::<Fips197>::new(&key, &iv).seal_blocks(&iv, &padded(&message)))
+}
+
+fn damaged(bench: &mut Bench, key: &[u8], sealed: &[u8], bits: &[usize]) {
+    let mut changed = sealed.to_vec();
+    for bit in bits {
+        changed[bit / 8] ^= 0x80 >> (bit % 8);
+    }
+    let answer = bench.check(&Call::Open { key, sealed: &changed, room: sealed.len() - 32 });
+    assert_eq!(answer.number, if changed == sealed { 0 } else { 6 }, "bits {bits:?}");
+    assert!(answer.number == 0 || answer.out.iter().all(|&byte| byte == 0));
+}

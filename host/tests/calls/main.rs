@@ -1,0 +1,22 @@
+//! The calls of the library, held against other implementations.
+//!
+//! All topics are modules of one program, so that they run beside each other on all cores. `cargo test -- --nocapture` prints how
+//! many calls each topic made.
+
+#[path = "../support/mod.rs"]
+mod support;
+
+mod bare_cipher;
+mod c_interface;
+mod closing;
+mod damage;
+mod joining;
+mod jumping;
+mod opening;
+mod racks;
+mod runs;
+mod sealing;
+mod spread;
+mod typed;
+mod vectors;
+mod zero_mask;

@@ -1,0 +1,47 @@
+//! A list spread over threads gives the very bytes, and the very refusals, of the whole calls.
+
+use balzenoh::{check_in_runs, open, seal, seal_in_runs, Iv, Key, Refusal};
+
+use crate::support::random::Random;
+
+const LENGTHS: [usize; 14] = [0, 1, 15, 16, 17, 31, 32, 100, 255, 256, 1_000, 63_983, 63_984, 63_999];
+const RUNS: [usize; 10] = [0, 1, 2, 3, 7, 16, 64, 4_000, 4_001, usize::MAX];
+const THREADS: [usize; 5] = [0, 1, 2, 3, 8];
+
+#[test]
+fn sealed_in_runs_as_sealed_whole() {
+    let mut random = Random::new(51);
+    let (key, iv) = (Key::from(random.block()), Iv::from(random.block()));
+    for length in LENGTHS {
+        let message = random.bytes(length);
+        let whole = seal(&key, &iv, &message);
+        for (runs, threads) in RUNS.iter().flat_map(|&runs| THREADS.map(|threads| (runs, threads))) {
+            assert!(seal_in_runs(&key, &iv, &message, runs, threads) == whole, "{length} bytes, {runs} runs, {threads} threads");
+        }
+    }
+    for length in [64_000, 64_001, 200_000] {
+        assert_eq!(seal_in_runs(&key, &iv, &vec![0; length], 4, 2), Err(Refusal::Length));
+    }
+}
+
+#[test]
+fn checked_in_runs_as_opened_whole() {
+    let mut random = Random::new(52);
+    let (key, iv) = (Key::from(random.block()), Iv::from(random.block()));
+    for length in LENGTHS {
+        let mut sealed = seal(&key, &iv, &random.bytes(length)).expect("within the limit");
+        for (runs, threads) in RUNS.iter().flat_map(|&runs| THREADS.map(|threads| (runs, threads))) {
+            assert_eq!(check_in_runs(&key, &sealed, runs, threads), Ok(()));
+        }
+        let at = random.below(sealed.len());
+        sealed[at] ^= 1 << random.below(8);
+        for runs in RUNS {
+            assert_eq!(check_in_runs(&key, &sealed, runs, 2), Err(Refusal::TagDiffers));
+        }
+    }
+    for length in (0..=100).chain(64_000..=64_060) {
+        let sealed = random.bytes(length);
+        let opened = open(&key, &sealed).map(|_| ());
+        assert_eq!(check_in_runs(&key, &sealed, 3, 2), opened, "{length} bytes");
+    }
+}

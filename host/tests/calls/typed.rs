@@ -1,0 +1,83 @@
+//! The functions on typed values: they are the calls on slices, with the room that is needed.
+
+use balzenoh::{check_run, close, join_list, jump, open, open_into, raw, seal, seal_into, seal_run, test};
+use balzenoh::{Iv, Key, Kind, Refusal, RunRecord, Tag};
+
+use crate::support::random::Random;
+
+fn key_and_iv(random: &mut Random) -> (Key, Iv) {
+    (Key::from(random.block()), Iv::from(random.block()))
+}
+
+#[test]
+fn whole_messages_come_back() {
+    let mut random = Random::new(41);
+    for length in (0..=300).chain([63_998, 63_999]) {
+        let (key, iv) = key_and_iv(&mut random);
+        let message = random.bytes(length);
+        let sealed = seal(&key, &iv, &message).expect("within the limit");
+        assert_eq!(open(&key, &sealed), Ok(message.clone()));
+        let (mut lent, mut back) = (random.bytes(sealed.len() + 3), random.bytes(sealed.len()));
+        assert_eq!(seal_into(&key, &iv, &message, &mut lent), Ok(sealed.len()));
+        assert_eq!(lent, [&sealed[..], &[0; 3]].concat());
+        assert_eq!(open_into(&key, &sealed, &mut back), Ok(length));
+        assert_eq!(back[..length], message);
+    }
+}
+
+#[test]
+fn lengths_out_of_range_are_refused() {
+    let mut random = Random::new(42);
+    let (key, iv) = key_and_iv(&mut random);
+    for length in [64_000, 64_001, 1_000_000] {
+        assert_eq!(seal(&key, &iv, &vec![0; length]), Err(Refusal::Length));
+    }
+    for length in [0, 16, 32, 47, 49, 64_033, 64_048, 1_000_000] {
+        assert_eq!(open(&key, &vec![0; length]), Err(Refusal::Length));
+    }
+    assert_eq!(seal_run(&key, &iv, 0, Kind::Middle, &[0; 17]), Err(Refusal::Length));
+    assert_eq!(seal_run(&key, &iv, 0, Kind::Middle, &vec![0; 64_016]), Err(Refusal::BeyondLimit));
+    assert_eq!(seal_run(&key, &iv, 0, Kind::Last, &vec![0; 64_000]), Err(Refusal::BeyondLimit));
+    assert_eq!(check_run(&key, &iv, 4_000, &[0; 16]), Err(Refusal::BeyondLimit));
+    assert_eq!(jump(&[0; 16], 4_001), Err(Refusal::BeyondLimit));
+    assert_eq!(join_list(&[]), Err(Refusal::NotWhole));
+    assert_eq!(RunRecord::from_bytes(&[0; 23]), Err(Refusal::RecordLength));
+}
+
+#[test]
+fn runs_are_those_of_the_slices() {
+    let mut random = Random::new(43);
+    for length in 0..=100 {
+        let (key, iv) = key_and_iv(&mut random);
+        let (bytes, first) = (random.bytes(length), random.below(3_900) as u32);
+        for (kind, last) in [(Kind::Middle, false), (Kind::Last, true)] {
+            let (mut out, mut run) = (vec![0; length + 16], [0; 24]);
+            let expected = raw::seal_run(key.as_bytes(), iv.as_bytes(), first, last, &bytes, &mut out, &mut run)
+                .map(|length| (out[..length].to_vec(), RunRecord::from_bytes(&run).expect("24 bytes")));
+            let given = seal_run(&key, &iv, first, kind, &bytes);
+            assert_eq!(given, expected);
+            if let Ok((ciphertext, record)) = given {
+                assert_eq!(check_run(&key, &iv, first, &ciphertext), Ok(record));
+                assert_eq!(record.to_bytes(), run);
+            }
+        }
+    }
+}
+
+#[test]
+fn records_join_close_and_pass() {
+    let mut random = Random::new(44);
+    let (key, iv) = key_and_iv(&mut random);
+    let message = random.bytes(75);
+    let sealed = seal(&key, &iv, &message).expect("within the limit");
+    let (_, left) = seal_run(&key, &iv, 0, Kind::Middle, &message[..32]).expect("two blocks");
+    let (_, right) = seal_run(&key, &iv, 2, Kind::Last, &message[32..]).expect("three blocks");
+    let whole = left.join(right).expect("neighbours");
+    assert_eq!(join_list(&[left, right]), Ok(whole));
+    assert_eq!(right.join(left), Err(Refusal::NotNeighbours));
+    let tag = close(&key, &iv, &whole).expect("a whole record");
+    assert_eq!(sealed[sealed.len() - 16..], tag.as_bytes()[..]);
+    assert_eq!(test(&key, &iv, &whole, &tag), Ok(()));
+    assert_eq!(test(&key, &iv, &whole, &Tag::from([0; 16])), Err(Refusal::TagDiffers));
+    assert_eq!(close(&key, &iv, &right), Err(Refusal::NotWhole));
+}

@@ -1,0 +1,120 @@
+//! The published vectors: of FIPS 197, of the mode's paper, and the examples of document 01.
+
+use balzenoh::{close, hex, jump, open, seal_run, Iv, Key, Kind, Refusal};
+
+use crate::support::aesni::{self, AesNi};
+use crate::support::cipher::Cipher;
+use crate::support::fips197::Fips197;
+use crate::support::mode::{times_x, Mode};
+
+const KEY: &str = "000102030405060708090A0B0C0D0E0F";
+const IV: &str = "0123456789ABCDEF0123456789ABCDEF";
+const M1: &str = "00112233445566778899AABBCCDDEEFF";
+
+fn block(digits: &str) -> [u8; 16] {
+    hex::decode(digits).expect("digits").try_into().expect("16 bytes")
+}
+
+fn digits(number: u128) -> String {
+    format!("{number:032X}")
+}
+
+fn fips197_examples<C: Cipher>() {
+    let examples = [
+        ("2B7E151628AED2A6ABF7158809CF4F3C", "3243F6A8885A308D313198A2E0370734", "3925841D02DC09FBDC118597196A0B32"),
+        (KEY, M1, "69C4E0D86A7B0430D8CDB78070B4C55A"),
+    ];
+    for (key, plain, encrypted) in examples {
+        let (cipher, plain) = (C::new(&block(key)), u128::from_be_bytes(block(plain)));
+        assert_eq!(digits(cipher.encrypt(plain)), encrypted);
+        assert_eq!(cipher.decrypt(cipher.encrypt(plain)), plain);
+    }
+}
+
+/// Both tests of the paper, the second with all of its 1,000,000 blocks: each ciphertext block is the next block.
+fn paper_vectors<C: Cipher>() {
+    let mode = Mode::<C>::new(&block(KEY), &block(IV));
+    let (mut mask, mut preauthenticator, mut text) = (mode.start_mask, 0, u128::from_be_bytes(block(M1)));
+    for number in 1..=1_000_000 {
+        let step = mode.forward(text, mask);
+        assert_eq!(mode.backward(step.other, mask).other, text);
+        preauthenticator = times_x(preauthenticator) ^ step.middletext;
+        let tag = || mode.cipher.encrypt(preauthenticator ^ times_x(mask)) ^ preauthenticator;
+        let seen = || [mask, step.middletext, preauthenticator, step.other, tag()].map(digits);
+        match number {
+            1 => assert_eq!(seen(), BLOCK_1),
+            2 => assert_eq!(seen()[..4], BLOCK_2),
+            1_000_000 => assert_eq!(seen(), BLOCK_1_000_000),
+            _ => {}
+        }
+        (mask, text) = (times_x(mask), step.other);
+    }
+}
+
+/// Mask, middletext, pre-authenticator, ciphertext block, and the tag of a list that ends here.
+const BLOCK_1: [&str; 5] = [
+    "FDED29920913A3DA8C9ECA2F0FD434AA",
+    "C31FDB743AA199CB78AA156AED162EB9",
+    "C31FDB743AA199CB78AA156AED162EB9",
+    "030F28E63B8A9C570D7FEF31940226F4",
+    "CBBD199D075F7220957FD8205A233B9F",
+];
+const BLOCK_2: [&str; 4] = [
+    "FBDA5324122747B5193D945E1FA869D3",
+    "E005EF3D83A7F60BD8486A7B15CC93DD",
+    "663A59D5F6E4C59D291C40AECFE0CE28",
+    "8C501ED50FBBECE46655493BF9AD5229",
+];
+const BLOCK_1_000_000: [&str; 5] = [
+    "8F3461728ECD3A7B3D3CC89808967071",
+    "0DF19348FE1FD9EFEC91D9843B13566A",
+    "D72D708155DB739339471E4D1EAB6D85",
+    "F347A18A64E419D33759AD819D5CD8B4",
+    "9D6478D55514E83763C369067E8B82D0",
+];
+
+#[test]
+fn the_reference_meets_the_published_vectors() {
+    fips197_examples::<Fips197>();
+    paper_vectors::<Fips197>();
+}
+
+#[test]
+fn the_processor_meets_the_published_vectors() {
+    if !aesni::available() {
+        println!("no AES instructions here: skipped");
+        return;
+    }
+    fips197_examples::<AesNi>();
+    paper_vectors::<AesNi>();
+}
+
+/// The paper's blocks have no padding: they go through middle runs and closing.
+#[test]
+fn the_library_meets_the_papers_vectors() {
+    let (key, iv) = (Key::from(block(KEY)), Iv::from(block(IV)));
+    let (c1, record) = seal_run(&key, &iv, 0, Kind::Middle, &block(M1)).expect("one block");
+    assert_eq!(hex::encode(&record.preauthenticator), BLOCK_1[2]);
+    assert_eq!(hex::encode(&c1), BLOCK_1[3]);
+    let tag = close(&key, &iv, &record).expect("a whole record");
+    assert_eq!(hex::encode(tag.as_bytes()), BLOCK_1[4]);
+    // The second block is the first one's ciphertext.
+    let (c2, right) = seal_run(&key, &iv, 1, Kind::Middle, &c1).expect("one block");
+    assert_eq!(hex::encode(&right.preauthenticator), BLOCK_2[1]);
+    assert_eq!(hex::encode(&c2), BLOCK_2[3]);
+    let joined = record.join(right).expect("neighbours");
+    assert_eq!(hex::encode(&joined.preauthenticator), BLOCK_2[2]);
+    // Row 7's example: the published block ends in FF.
+    let sealed = [&iv.as_bytes()[..], &c1, tag.as_bytes()].concat();
+    assert_eq!(open(&key, &sealed), Err(Refusal::Padding));
+}
+
+/// Cards (a) to (d).
+#[test]
+fn the_library_meets_the_cards_for_jumps() {
+    let one = 1_u128.to_be_bytes();
+    assert_eq!(jump(&one, 0), Ok(one));
+    assert_eq!(jump(&one, 127), Ok((1_u128 << 127).to_be_bytes()));
+    assert_eq!(jump(&one, 128), Ok(0x87_u128.to_be_bytes()));
+    assert_eq!(jump(&block(BLOCK_1[0]), 1), Ok(block(BLOCK_2[0])));
+}

@@ -1,0 +1,69 @@
+//! A call of the library as a value, and its whole answer.
+
+/// What is handed in. A `room` is the length of a lent output, a `record_room` that of an output for a record.
+#[derive(Clone, Debug)]
+pub enum Call<'a> {
+    Seal { key: &'a [u8], iv: &'a [u8], message: &'a [u8], room: usize },
+    Open { key: &'a [u8], sealed: &'a [u8], room: usize },
+    SealRun { key: &'a [u8], iv: &'a [u8], first: u32, last: bool, bytes: &'a [u8], room: usize, record_room: usize },
+    CheckRun { key: &'a [u8], iv: &'a [u8], first: u32, bytes: &'a [u8], record_room: usize },
+    Join { left: &'a [u8], right: &'a [u8], record_room: usize },
+    JoinList { records: &'a [u8], record_room: usize },
+    Close { key: &'a [u8], iv: &'a [u8], record: &'a [u8], room: usize },
+    Test { key: &'a [u8], iv: &'a [u8], record: &'a [u8], tag: &'a [u8] },
+    Jump { mask: &'a [u8], distance: u32, room: usize },
+}
+
+/// The functions' names, in the order of `Call::function`.
+pub const FUNCTIONS: [&str; 9] = ["seal", "open", "seal_run", "check_run", "join", "join_list", "close", "test", "jump"];
+
+/// What comes back: the refusal's number or 0, the reported length (0 where none is), and the lent outputs from end to end.
+#[derive(Clone, Debug, PartialEq, Eq)]
+pub struct Answer {
+    pub number: u8,
+    pub length: usize,
+    pub out: Vec<u8>,
+    pub record: Vec<u8>,
+}
+
+impl<'a> Call<'a> {
+    pub fn function(&self) -> usize {
+        match self {
+            Call::Seal { .. } => 0,
+            Call::Open { .. } => 1,
+            Call::SealRun { .. } => 2,
+            Call::CheckRun { .. } => 3,
+            Call::Join { .. } => 4,
+            Call::JoinList { .. } => 5,
+            Call::Close { .. } => 6,
+            Call::Test { .. } => 7,
+            Call::Jump { .. } => 8,
+        }
+    }
+
+    /// The lengths of the lent outputs: bytes, record.
+    pub fn rooms(&self) -> (usize, usize) {
+        match *self {
+            Call::Seal { room, .. } | Call::Open { room, .. } | Call::Close { room, .. } | Call::Jump { room, .. } => (room, 0),
+            Call::SealRun { room, record_room, .. } => (room, record_room),
+            Call::CheckRun { record_room, .. } | Call::Join { record_room, .. } | Call::JoinList { record_room, .. } => {
+                (0, record_room)
+            }
+            Call::Test { .. } => (0, 0),
+        }
+    }
+
+    /// All that is only read, one after the other.
+    pub fn inputs(&self) -> Vec<u8> {
+        match *self {
+            Call::Seal { key, iv, message, .. } => [key, iv, message].concat(),
+            Call::Open { key, sealed, .. } => [key, sealed].concat(),
+            Call::SealRun { key, iv, bytes, .. } | Call::CheckRun { key, iv, bytes, .. } => [key, iv, bytes].concat(),
+            Call::Join { left, right, .. } => [left, right].concat(),
+            Call::JoinList { records, .. } => records.to_vec(),
+            Call::Close { key, iv, record, .. } => [key, iv, record].concat(),
+            Call::Test { key, iv, record, tag } => [key, iv, record, tag].concat(),
+            Call::Jump { mask, .. } => mask.to_vec(),
+        }
+    }
+}

@@ -1,0 +1,14 @@
+//! What the tests share: two other implementations of the mode, and a bench that holds every call of the library against them.
+
+pub mod aesni;
+pub mod bench;
+pub mod call;
+pub mod cipher;
+pub mod fips197;
+pub mod library;
+pub mod mode;
+pub mod plan;
+pub mod rack;
+pub mod random;
+pub mod reference;
+pub mod tally;

@@ -1,0 +1,100 @@
+//! Cipher-State mode as its paper has it, over any cipher in two halves.
+
+use super::cipher::Cipher;
+
+/// Multiplies by the polynomial's variable: a shift to the left, and 87 for the bit that falls out.
+pub fn times_x(block: u128) -> u128 {
+    (block << 1) ^ if block >> 127 == 1 { 0x87 } else { 0 }
+}
+
+/// Multiplies by the variable as often as that.
+pub fn times_x_power(block: u128, power: u32) -> u128 {
+    (0..power).fold(block, |block, _| times_x(block))
+}
+
+/// The mode under one key and IV.
+pub struct Mode<C> {
+    pub cipher: C,
+    pub start_mask: u128,
+}
+
+/// One block's step: what it yields.
+pub struct Step {
+    pub middletext: u128,
+    pub other: u128,
+}
+
+impl<C: Cipher> Mode<C> {
+    pub fn new(key: &[u8; 16], iv: &[u8; 16]) -> Self {
+        let cipher = C::new(key);
+        let key = u128::from_be_bytes(*key);
+        let mask = cipher.encrypt(u128::from_be_bytes(*iv) ^ key) ^ key;
+        Self { cipher, start_mask: if mask == 0 { key } else { mask } }
+    }
+
+    /// From a block of plaintext: middletext and ciphertext.
+    pub fn forward(&self, block: u128, mask: u128) -> Step {
+        let middletext = self.cipher.first_half(block ^ mask);
+        Step { middletext, other: self.cipher.second_half(middletext) ^ mask }
+    }
+
+    /// From a block of ciphertext: middletext and plaintext.
+    pub fn backward(&self, block: u128, mask: u128) -> Step {
+        let middletext = self.cipher.second_half_back(block ^ mask);
+        Step { middletext, other: self.cipher.first_half_back(middletext) ^ mask }
+    }
+
+    /// Takes blocks, numbered from `first` on, through a step each. Gives the other text, and the pre-authenticator begun from
+    /// zero.
+    pub fn run(&self, first: u32, text: &[u8], step: fn(&Self, u128, u128) -> Step) -> (Vec<u8>, u128) {
+        let mut mask = times_x_power(self.start_mask, first);
+        let mut preauthenticator = 0;
+        let mut other = Vec::with_capacity(text.len());
+        for block in text.chunks_exact(16) {
+            let step = step(self, number(block), mask);
+            preauthenticator = times_x(preauthenticator) ^ step.middletext;
+            other.extend(step.other.to_be_bytes());
+            mask = times_x(mask);
+        }
+        (other, preauthenticator)
+    }
+
+    /// The tag of a list of that many blocks.
+    pub fn tag(&self, blocks: u32, preauthenticator: u128) -> u128 {
+        let mask_after = times_x_power(self.start_mask, blocks);
+        self.cipher.encrypt(preauthenticator ^ mask_after) ^ preauthenticator
+    }
+
+    /// IV, ciphertext and tag of whole blocks, to which no padding is added.
+    pub fn seal_blocks(&self, iv: &[u8], blocks: &[u8]) -> Vec<u8> {
+        let (ciphertext, preauthenticator) = self.run(0, blocks, Self::forward);
+        let tag = self.tag((blocks.len() / 16) as u32, preauthenticator);
+        [iv, &ciphertext, &tag.to_be_bytes()].concat()
+    }
+
+    /// IV, ciphertext and the right tag of any ciphertext.
+    pub fn vouch_for(&self, iv: &[u8], ciphertext: &[u8]) -> Vec<u8> {
+        let (_, preauthenticator) = self.run(0, ciphertext, Self::backward);
+        let tag = self.tag((ciphertext.len() / 16) as u32, preauthenticator);
+        [iv, ciphertext, &tag.to_be_bytes()].concat()
+    }
+}
+
+/// 16 bytes as a number.
+pub fn number(block: &[u8]) -> u128 {
+    u128::from_be_bytes(block.try_into().expect("a block of 16 bytes"))
+}
+
+/// A message with a byte 80 and zeros to the next multiple of 16.
+pub fn padded(message: &[u8]) -> Vec<u8> {
+    let mut blocks = message.to_vec();
+    blocks.push(0x80);
+    blocks.resize(blocks.len().next_multiple_of(16), 0);
+    blocks
+}
+
+/// The message that is padded to these blocks, if any.
+pub fn unpadded(blocks: &[u8]) -> Option<&[u8]> {
+    let last = blocks.iter().rposition(|&byte| byte != 0)?;
+    (blocks[last] == 0x80 && blocks.len() - last <= 16).then(|| &blocks[..last])
+}

@@ -1,0 +1,57 @@
+//! The topics of the tests, and how many calls of the library each makes at least.
+
+#[derive(Clone, Copy)]
+pub struct Topic {
+    pub name: &'static str,
+    pub seed: u64,
+    pub calls: u64,
+}
+
+const fn topic(name: &'static str, seed: u64, calls: u64) -> Topic {
+    Topic { name, seed, calls }
+}
+
+pub const SEALING: Topic = topic("sealing, every length and room", 1, 25_000);
+pub const SEALING_EDGES: Topic = topic("sealing at the edges", 2, 6_800);
+pub const OPENING: Topic = topic("opening, every length and room", 3, 25_000);
+pub const OPENING_EDGES: Topic = topic("opening at the edges", 4, 1_900);
+pub const OPENING_ENDS: Topic = topic("opening, ends of lists", 5, 40_000);
+pub const RUNS_SEALED: Topic = topic("sealing runs", 6, 51_000);
+pub const RUNS_CHECKED: Topic = topic("checking runs", 7, 25_000);
+pub const RUN_EDGES: Topic = topic("runs at the edges", 8, 26_000);
+pub const JOINS: Topic = topic("joining records", 9, 250_000);
+pub const CLOSINGS: Topic = topic("closing and testing records", 10, 120_000);
+pub const JUMPS: Topic = topic("jumping masks", 11, 140_000);
+pub const RACKS_SEALED: Topic = topic("racks over messages", 12, 300_000);
+pub const RACKS_CHECKED: Topic = topic("racks over sealed records", 13, 300_000);
+pub const DAMAGE: Topic = topic("damaged records", 14, 20_000);
+pub const ZERO_MASK: Topic = topic("start mask zero", 15, 6_000);
+
+/// How many racks each of their two topics has.
+pub const RACKS: usize = 12_000;
+
+const ALL: [Topic; 15] = [
+    SEALING,
+    SEALING_EDGES,
+    OPENING,
+    OPENING_EDGES,
+    OPENING_ENDS,
+    RUNS_SEALED,
+    RUNS_CHECKED,
+    RUN_EDGES,
+    JOINS,
+    CLOSINGS,
+    JUMPS,
+    RACKS_SEALED,
+    RACKS_CHECKED,
+    DAMAGE,
+    ZERO_MASK,
+];
+
+/// Each topic's test sees that it made its number of calls.
+#[test]
+fn a_million_calls_are_planned() {
+    let planned: u64 = ALL.iter().map(|topic| topic.calls).sum();
+    println!("planned: {planned} calls of the library");
+    assert!(planned >= 1_000_000);
+}

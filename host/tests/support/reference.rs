@@ -1,0 +1,204 @@
+//! Every call, written from the papers: the rows of the table in their order, and the whole answer.
+
+use super::call::{Answer, Call};
+use super::cipher::Cipher;
+use super::mode::{number, padded, times_x_power, unpadded, Mode};
+
+const LIMIT: u64 = 4_000;
+const LONGEST_MESSAGE: usize = 63_999;
+
+/// What a call gives when it is not refused.
+#[derive(Default)]
+struct Given {
+    length: usize,
+    out: Vec<u8>,
+    record: Vec<u8>,
+}
+
+/// The refusal's number is the error.
+type Outcome = Result<Given, u8>;
+
+/// The whole answer: what is given and zeros to each output's end, or nothing but zeros.
+pub fn answer<C: Cipher>(call: &Call) -> Answer {
+    let (room, record_room) = call.rooms();
+    let (number, given) = match outcome::<C>(call) {
+        Ok(given) => (0, given),
+        Err(number) => (number, Given::default()),
+    };
+    let Given { length, mut out, mut record } = given;
+    out.resize(room, 0);
+    record.resize(record_room, 0);
+    Answer { number, length, out, record }
+}
+
+fn outcome<C: Cipher>(call: &Call) -> Outcome {
+    match *call {
+        Call::Seal { key, iv, message, room } => seal::<C>(key, iv, message, room),
+        Call::Open { key, sealed, room } => open::<C>(key, sealed, room),
+        Call::SealRun { key, iv, first, last, bytes, room, record_room } => {
+            let under = Under { key, iv };
+            seal_run::<C>(under, first, last, bytes, (room, record_room))
+        }
+        Call::CheckRun { key, iv, first, bytes, record_room } => check_run::<C>(Under { key, iv }, first, bytes, record_room),
+        Call::Join { left, right, record_room } => join(left, right, record_room),
+        Call::JoinList { records, record_room } => join_list(records, record_room),
+        Call::Close { key, iv, record, room } => close::<C>(Under { key, iv }, record, room),
+        Call::Test { key, iv, record, tag } => test::<C>(Under { key, iv }, record, tag),
+        Call::Jump { mask, distance, room } => jump(mask, distance, room),
+    }
+}
+
+/// The first row whose condition holds is the refusal.
+fn rows(rows: &[(u8, bool)]) -> Result<(), u8> {
+    match rows.iter().find(|(_, holds)| *holds) {
+        Some((number, _)) => Err(*number),
+        None => Ok(()),
+    }
+}
+
+/// A key and an IV as they were handed in, of any length.
+#[derive(Clone, Copy)]
+struct Under<'a> {
+    key: &'a [u8],
+    iv: &'a [u8],
+}
+
+impl Under<'_> {
+    fn rows(self) -> [(u8, bool); 2] {
+        [(1, self.key.len() != 16), (2, self.iv.len() != 16)]
+    }
+
+    /// Once the rows are past.
+    fn mode<C: Cipher>(self) -> Mode<C> {
+        Mode::new(self.key.try_into().expect("16 bytes"), self.iv.try_into().expect("16 bytes"))
+    }
+}
+
+/// A run record.
+#[derive(Clone, Copy)]
+struct Record {
+    first: u32,
+    count: u32,
+    preauthenticator: u128,
+}
+
+impl Record {
+    /// Reads a record, or gives 24.
+    fn read(bytes: &[u8]) -> Result<Self, u8> {
+        rows(&[(24, bytes.len() != 24)])?;
+        let half = |at: usize| u32::from_be_bytes(bytes[at..at + 4].try_into().expect("4 bytes"));
+        Ok(Self { first: half(0), count: half(4), preauthenticator: number(&bytes[8..]) })
+    }
+
+    fn written(self) -> Vec<u8> {
+        let numbers = [self.first.to_be_bytes(), self.count.to_be_bytes()].concat();
+        [&numbers[..], &self.preauthenticator.to_be_bytes()].concat()
+    }
+
+    /// The block after the last one.
+    fn end(self) -> u64 {
+        u64::from(self.first) + u64::from(self.count)
+    }
+
+    fn joined(self, right: Self) -> Self {
+        let moved = times_x_power(self.preauthenticator, right.count);
+        Self { first: self.first, count: self.count + right.count, preauthenticator: moved ^ right.preauthenticator }
+    }
+}
+
+fn seal<C: Cipher>(key: &[u8], iv: &[u8], message: &[u8], room: usize) -> Outcome {
+    let under = Under { key, iv };
+    rows(&under.rows())?;
+    rows(&[(3, message.len() > LONGEST_MESSAGE)])?;
+    let blocks = padded(message);
+    rows(&[(5, room < blocks.len() + 32)])?;
+    let out = under.mode::<C>().seal_blocks(iv, &blocks);
+    Ok(Given { length: out.len(), out, ..Given::default() })
+}
+
+fn open<C: Cipher>(key: &[u8], sealed: &[u8], room: usize) -> Outcome {
+    rows(&[(1, key.len() != 16)])?;
+    rows(&[(3, sealed.len() < 48 || sealed.len() > 64_032 || !sealed.len().is_multiple_of(16))])?;
+    let (iv, rest) = sealed.split_at(16);
+    let (ciphertext, tag) = rest.split_at(rest.len() - 16);
+    rows(&[(5, room < ciphertext.len())])?;
+    let mode = Under { key, iv }.mode::<C>();
+    let (blocks, preauthenticator) = mode.run(0, ciphertext, Mode::backward);
+    rows(&[(6, mode.tag((ciphertext.len() / 16) as u32, preauthenticator) != number(tag))])?;
+    let message = unpadded(&blocks).ok_or(7)?;
+    Ok(Given { length: message.len(), out: message.to_vec(), ..Given::default() })
+}
+
+fn seal_run<C: Cipher>(under: Under, first: u32, last: bool, bytes: &[u8], rooms: (usize, usize)) -> Outcome {
+    rows(&under.rows())?;
+    rows(&[(3, !last && !bytes.len().is_multiple_of(16))])?;
+    let blocks = if last { padded(bytes) } else { bytes.to_vec() };
+    let count = (blocks.len() / 16) as u32;
+    rows(&[(4, u64::from(first) + u64::from(count) > LIMIT)])?;
+    rows(&[(5, rooms.0 < blocks.len() || rooms.1 < 24)])?;
+    let (out, preauthenticator) = under.mode::<C>().run(first, &blocks, Mode::forward);
+    let record = Record { first, count, preauthenticator }.written();
+    Ok(Given { length: out.len(), out, record })
+}
+
+fn check_run<C: Cipher>(under: Under, first: u32, bytes: &[u8], record_room: usize) -> Outcome {
+    rows(&under.rows())?;
+    rows(&[(3, !bytes.len().is_multiple_of(16))])?;
+    let count = (bytes.len() / 16) as u32;
+    rows(&[(4, u64::from(first) + u64::from(count) > LIMIT), (5, record_room < 24)])?;
+    let (_, preauthenticator) = under.mode::<C>().run(first, bytes, Mode::backward);
+    record_given(Record { first, count, preauthenticator })
+}
+
+fn join(left: &[u8], right: &[u8], record_room: usize) -> Outcome {
+    let records = [Record::read(left)?, Record::read(right)?];
+    join_records(&records, record_room)
+}
+
+fn join_list(records: &[u8], record_room: usize) -> Outcome {
+    rows(&[(24, !records.len().is_multiple_of(24))])?;
+    let records: Result<Vec<_>, _> = records.chunks(24).map(Record::read).collect();
+    join_records(&records?, record_room)
+}
+
+fn join_records(records: &[Record], record_room: usize) -> Outcome {
+    rows(&[
+        (4, records.iter().any(|record| record.end() > LIMIT)),
+        (8, records.windows(2).any(|pair| pair[0].end() != u64::from(pair[1].first))),
+        (9, records.is_empty()),
+        (5, record_room < 24),
+    ])?;
+    record_given(records.iter().copied().reduce(Record::joined).expect("no empty list"))
+}
+
+fn record_given(record: Record) -> Outcome {
+    Ok(Given { record: record.written(), ..Given::default() })
+}
+
+fn close<C: Cipher>(under: Under, record: &[u8], room: usize) -> Outcome {
+    let record = Record::read(record)?;
+    rows(&under.rows())?;
+    rows(&whole_rows(record))?;
+    rows(&[(5, room < 16)])?;
+    let tag = under.mode::<C>().tag(record.count, record.preauthenticator);
+    Ok(Given { out: tag.to_be_bytes().to_vec(), ..Given::default() })
+}
+
+fn test<C: Cipher>(under: Under, record: &[u8], tag: &[u8]) -> Outcome {
+    let record = Record::read(record)?;
+    rows(&under.rows())?;
+    rows(&[(3, tag.len() != 16)])?;
+    rows(&whole_rows(record))?;
+    rows(&[(6, under.mode::<C>().tag(record.count, record.preauthenticator) != number(tag))])?;
+    Ok(Given::default())
+}
+
+/// The rows for a record that must be one of a whole list.
+fn whole_rows(record: Record) -> [(u8, bool); 2] {
+    [(4, record.end() > LIMIT), (9, record.first != 0 || record.count == 0)]
+}
+
+fn jump(mask: &[u8], distance: u32, room: usize) -> Outcome {
+    rows(&[(3, mask.len() != 16), (4, u64::from(distance) > LIMIT), (5, room < 16)])?;
+    Ok(Given { out: times_x_power(number(mask), distance).to_be_bytes().to_vec(), ..Given::default() })
+}
