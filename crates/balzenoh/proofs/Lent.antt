@@ -27,20 +27,19 @@ passed f room n e = by (eqb f 0) (ltb room n) refl refl e
 pub room-there : (f room n : ℕ) → firstRow (lentRows f room n) ≡ 0 → n ≤ room
 room-there f room n e = ltb-false room n (passed f room n e .1)
 
-module _ (f : ℕ) (bytes : List ℕ) (room n : ℕ) (long : length bytes ≡ n) where
+module _ (f n : ℕ) (bytes : List ℕ) (room : ℕ) where
   -- refused: the output is zeros
-  pub lent-refused : (k : ℕ) → k ≡ firstRow (lentRows f room n) → (k ≡ 0 → ⊥) → (k ≡ number ((lent f bytes room) .answer)) × (zeros room ≡ (lent f bytes room) .output)
+  pub lent-refused : (k : ℕ) → k ≡ firstRow (lentRows f room n) → (k ≡ 0 → ⊥) → (k ≡ number ((lent f n bytes room) .answer)) × (zeros room ≡ (lent f n bytes room) .output)
   unfolding lent number
   lent-refused k e h =
-      let d = refuses (lentRows f room (length bytes)) bytes k (e ∙ ap (λ (m : ℕ). firstRow (lentRows f room m)) (sym long)) h in
-      let o = outcome-refused _ bytes room k d in
+      let o = outcome-refused _ bytes room k (refuses (lentRows f room n) bytes k e h) in
       (sym (ap (λ (x : Outcome (List ℕ)). number (x .answer)) o), sym (ap (λ (x : Outcome (List ℕ)). x .output) o))
 
   -- given: the bytes, and zeros beyond them
-  pub lent-given : firstRow (lentRows f room n) ≡ 0 → (0 ≡ number ((lent f bytes room) .answer)) × (bytes ++ zeros (room - n) ≡ (lent f bytes room) .output)
+  pub lent-given : length bytes ≡ n → firstRow (lentRows f room n) ≡ 0 → (0 ≡ number ((lent f n bytes room) .answer)) × (bytes ++ zeros (room - n) ≡ (lent f n bytes room) .output)
   unfolding lent number decide
-  lent-given e =
+  lent-given long e =
       let p = passed f room n e in
-      let d : decide (lentRows f room (length bytes)) bytes ≡ given bytes = rw (p .0, long, p .1) refl in
+      let d : decide (lentRows f room n) bytes ≡ given bytes = rw (p .0, p .1) refl in
       let o = outcome-given _ bytes room bytes d in
       (sym (ap (λ (x : Outcome (List ℕ)). number (x .answer)) o), sym (ap (λ (x : Outcome (List ℕ)). x .output) o ∙ ap (λ (m : ℕ). bytes ++ zeros (room - m)) long))

@@ -20,14 +20,14 @@ use Rattle.balzenoh.specs.Encoding.{encoded, decoded, recordsOf}
 abbrev pub lentRows : ℕ → ℕ → ℕ → List (ℕ × Bool)
 lentRows refusal room needed = (refusal, not (eqb refusal 0)) ∷ (5, tooShort room needed) ∷ []
 
-unfoldable pub lent : ℕ → List ℕ → ℕ → Outcome (List ℕ)
-lent refusal bytes room = outcomeBy (decide (lentRows refusal room (length bytes)) bytes) bytes room
+unfoldable pub lent : ℕ → ℕ → List ℕ → ℕ → Outcome (List ℕ)
+lent refusal needed bytes room = outcomeBy (decide (lentRows refusal room needed) bytes) bytes room
 
 abbrev pub lentRecord : RecordAnswer → ℕ → Outcome (List ℕ)
-lentRecord a room = lent (a .refusal) (encoded (a .run)) room
+lentRecord a room = lent (a .refusal) 24 (encoded (a .run)) room
 
 abbrev pub lentTag : TagAnswer → ℕ → Outcome (List ℕ)
-lentTag a room = lent (a .refusal) (a .tag) room
+lentTag a room = lent (a .refusal) 16 (a .tag) room
 
 -- ---- a record that is handed in
 
@@ -60,9 +60,9 @@ testBytes key iv r tag = cond (notRecord r) 24 (number (test aes key iv (decoded
 abbrev pub recordOf : RunAnswer → RecordAnswer
 recordOf a = record { refusal = a .refusal; run = a .run }
 
--- where there is no room for the record, the ciphertext is not kept
+-- where there is no room for the record, the ciphertext is not kept: an output of `size` bytes is zeros
 unfoldable pub keptLength : Outcome RunRecord → ℕ → ℕ
 keptLength o room = cond (tooShort room 24) 0 (o .reported)
 
-unfoldable pub keptOutput : Outcome RunRecord → ℕ → List ℕ
-keptOutput o room = cond (tooShort room 24) (zeros (length (o .output))) (o .output)
+unfoldable pub keptOutput : Outcome RunRecord → ℕ → ℕ → List ℕ
+keptOutput o size room = cond (tooShort room 24) (zeros size) (o .output)

@@ -37,7 +37,7 @@ pub extern "C" fn balzenoh_seal_run(
 ) -> u8
     ensures answer { λ n. ⌜ n ≡ number ((lentRecord (recordOf (runAnswerOf (sealRun aes (now (key .entry)) (now (iv .entry)) first (kindOf (not (eqb last 0))) (now (bytes .entry)) (lengthOf (now (out .entry)))))) (lengthOf (now (run .entry)))) .answer) ⌝ }
     ensures written { λ _. ⌜ now (length .exit) ≡ keptLength (sealRun aes (now (key .entry)) (now (iv .entry)) first (kindOf (not (eqb last 0))) (now (bytes .entry)) (lengthOf (now (out .entry)))) (lengthOf (now (run .entry))) ⌝ }
-    ensures output { λ _. ⌜ now (out .exit) ≡ keptOutput (sealRun aes (now (key .entry)) (now (iv .entry)) first (kindOf (not (eqb last 0))) (now (bytes .entry)) (lengthOf (now (out .entry)))) (lengthOf (now (run .entry))) ⌝ }
+    ensures output { λ _. ⌜ now (out .exit) ≡ keptOutput (sealRun aes (now (key .entry)) (now (iv .entry)) first (kindOf (not (eqb last 0))) (now (bytes .entry)) (lengthOf (now (out .entry)))) (lengthOf (now (out .entry))) (lengthOf (now (run .entry))) ⌝ }
     ensures record { λ _. ⌜ now (run .exit) ≡ (lentRecord (recordOf (runAnswerOf (sealRun aes (now (key .entry)) (now (iv .entry)) first (kindOf (not (eqb last 0))) (now (bytes .entry)) (lengthOf (now (out .entry)))))) (lengthOf (now (run .entry)))) .output ⌝ }
 {
     let answer = calls::run::seal_run(key, iv, first, last != 0, bytes, out);

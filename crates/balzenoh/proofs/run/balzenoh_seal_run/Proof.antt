@@ -1,8 +1,9 @@
 -- The run, its ciphertext kept or not, and its record lent.
 use borrow.Author.Needs.{needs}
-use mathlib.Core.Path.{ap, _∙_}
+use mathlib.Core.Path.{ap, ap₂, _∙_}
 use mathlib.Core.Bool.{cond}
 use mathlib.Core.List.{List}
+use Prim.Native.Nat.{ℕ}
 use lib.ListN.{length}
 use Rattle.blocks.specs.Bytes.{zeros}
 use Rattle.mode.specs.declared.RunAnswer.{RunAnswer}
@@ -37,7 +38,7 @@ returns c =
       x .0 ∙ ap (λ (a : RunAnswer). number ((lentRecord (recordOf a) room) .answer)) (z .0),
       (
         y .0 ∙ ap (λ (a : RunAnswer). cond (tooShort room 24) 0 (a .length)) (z .0),
-        (y .1 ∙ ap (λ (o : List _). cond (tooShort room 24) (zeros (length o)) o) (z .1), x .1 ∙ ap (λ (a : RunAnswer). (lentRecord (recordOf a) room) .output) (z .0)),
+        (y .1 ∙ ap₂ (λ (n : ℕ) (o : List ℕ). cond (tooShort room 24) (zeros n) o) (c .before .before .before .before .before .before .before .before .before .before .before .seal-run .kept .1 .1 .1 .1 .1 .0) (z .1), x .1 ∙ ap (λ (a : RunAnswer). (lentRecord (recordOf a) room) .output) (z .0)),
       ),
     )
 
