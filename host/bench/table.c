@@ -46,7 +46,8 @@ void print_table(const struct figures *f) {
     print_over_aes(f, OPEN, DECRYPT);
     printf("masks, ns\n");
     printf("  %-22s%10.0f\n  %-22s%10.0f\n", "jump by 4000", f->jump_far, "jump by 1", f->jump_one);
-    printf("  %-32s%10.0f\n  %-32s%10.0f\n", "4000 steps in C, by bytes", f->steps_bytes, "4000 steps in C, by 64-bit words", f->steps_words);
+    printf("  %-32s%10.0f%10.1f times the jump\n", "4000 steps in C, by bytes", f->steps_bytes, f->steps_bytes / f->jump_far);
+    printf("  %-32s%10.0f%10.1f times the jump\n", "4000 steps in C, by 64-bit words", f->steps_words, f->steps_words / f->jump_far);
     printf("the longest list in two runs, us a list%14s%12s%10s\n", "one thread", "two", "ratio");
     print_threads("one list, with the second thread's start", f->one_thread, f->two_threads, 1);
     print_threads("eight lists in turn, with its start", f->one_thread_lists, f->two_threads_lists, LISTS);
@@ -68,7 +69,6 @@ void print_expectations(const struct figures *f) {
     expect("seal over AES encrypt, Balzenoh", over_aes(f, SEAL, ENCRYPT, OURS), 0.93);
     expect("open over AES decrypt, Balzenoh", over_aes(f, OPEN, DECRYPT, OURS), 0.93);
     expect("4000 steps by bytes over jump by 4000", f->steps_bytes / f->jump_far, 8);
-    expect("4000 steps by 64-bit words over jump by 4000", f->steps_words / f->jump_far, 8);
     expect("one thread over two, one list", f->one_thread / f->two_threads, 1.8);
     expect("one thread over two, eight lists", f->one_thread_lists / f->two_threads_lists, 1.8);
     expect("one thread over two, one list, second waiting", f->one_thread / f->with_helper, 1.8);

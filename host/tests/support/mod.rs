@@ -8,7 +8,7 @@ pub mod fips197;
 pub mod library;
 pub mod mode;
 pub mod plan;
-pub mod rack;
 pub mod random;
 pub mod reference;
+pub mod segments;
 pub mod tally;

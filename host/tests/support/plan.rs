@@ -22,13 +22,13 @@ pub const RUN_EDGES: Topic = topic("runs at the edges", 8, 26_000);
 pub const JOINS: Topic = topic("joining records", 9, 250_000);
 pub const CLOSINGS: Topic = topic("closing and testing records", 10, 120_000);
 pub const JUMPS: Topic = topic("jumping masks", 11, 140_000);
-pub const RACKS_SEALED: Topic = topic("racks over messages", 12, 300_000);
-pub const RACKS_CHECKED: Topic = topic("racks over sealed records", 13, 300_000);
+pub const CUTS_SEALED: Topic = topic("cuts over messages", 12, 300_000);
+pub const CUTS_CHECKED: Topic = topic("cuts over sealed records", 13, 300_000);
 pub const DAMAGE: Topic = topic("damaged records", 14, 20_000);
 pub const ZERO_MASK: Topic = topic("start mask zero", 15, 6_000);
 
-/// How many racks each of their two topics has.
-pub const RACKS: usize = 12_000;
+/// How many cuts each of their two topics has.
+pub const CUTS: usize = 12_000;
 
 const ALL: [Topic; 15] = [
     SEALING,
@@ -42,8 +42,8 @@ const ALL: [Topic; 15] = [
     JOINS,
     CLOSINGS,
     JUMPS,
-    RACKS_SEALED,
-    RACKS_CHECKED,
+    CUTS_SEALED,
+    CUTS_CHECKED,
     DAMAGE,
     ZERO_MASK,
 ];

@@ -1,4 +1,4 @@
-//! The rack of document 01: one place for each run of a cut, and what must lie in it.
+//! A list cut into segments, and what each must hold. Together they are document 01's rack, and a segment is one of its places.
 
 use super::bench::Bench;
 use super::call::Call;
@@ -9,7 +9,7 @@ use super::random::Random;
 
 /// Consecutive blocks, and their record once it is there.
 #[derive(Clone, PartialEq, Eq, Debug)]
-pub struct Place {
+pub struct Segment {
     pub first: usize,
     pub count: usize,
     pub record: Option<Vec<u8>>,
@@ -30,27 +30,27 @@ pub struct Unbroken {
     pub tag: [u8; 16],
 }
 
-pub struct Rack {
+pub struct Segments {
     pub key: [u8; 16],
     pub iv: [u8; 16],
     pub text: Text,
     pub unbroken: Unbroken,
-    pub places: Vec<Place>,
+    pub list: Vec<Segment>,
 }
 
-impl Rack {
-    /// A rack of empty places for a random cut.
+impl Segments {
+    /// A random cut, with no record yet.
     pub fn new(key: [u8; 16], iv: [u8; 16], text: Text, random: &mut Random) -> Self {
         let unbroken = Unbroken::new(&key, &iv, &text);
         let sealing = matches!(text, Text::Message(_));
-        let places = cut(unbroken.middletexts.len(), sealing, random);
-        Self { key, iv, text, unbroken, places }
+        let list = cut(unbroken.middletexts.len(), sealing, random);
+        Self { key, iv, text, unbroken, list }
     }
 
-    /// Seals (or checks) the run of an empty place, with enough room or too little, and puts its record there.
+    /// Seals (or checks) the run of an empty segment, with enough room or too little, and puts its record there.
     pub fn fill(&mut self, bench: &mut Bench, at: usize, enough: bool) {
         let expected = self.record_of(at, at);
-        let Place { first, count, .. } = self.places[at];
+        let Segment { first, count, .. } = self.list[at];
         let (mut room, mut record_room) = (16 * count, 24);
         if enough {
             room += bench.random.below(20);
@@ -70,14 +70,14 @@ impl Rack {
             assert_eq!(answer.length, 16 * count);
             assert_eq!(answer.out[..16 * count], self.unbroken.ciphertext[16 * first..16 * (first + count)]);
         }
-        self.places[at].record = Some(answer.record);
+        self.list[at].record = Some(answer.record);
     }
 
     fn run_call(&self, at: usize, room: usize, record_room: usize) -> Call<'_> {
         let (key, iv) = (&self.key, &self.iv);
-        let Place { first, count, .. } = self.places[at];
+        let Segment { first, count, .. } = self.list[at];
         let (start, end) = (16 * first, 16 * (first + count));
-        let last = at + 1 == self.places.len();
+        let last = at + 1 == self.list.len();
         let first = first as u32;
         match &self.text {
             Text::Message(message) => {
@@ -88,17 +88,17 @@ impl Rack {
         }
     }
 
-    /// Joins filled places that stand next to each other; one place replaces them.
+    /// Joins filled segments that stand next to each other; one segment replaces them.
     pub fn join(&mut self, bench: &mut Bench, from: usize, to: usize, as_pair: bool) {
         let indices: Vec<_> = (from..=to).collect();
         let answer = self.join_call(bench, &indices, as_pair);
         assert_eq!(answer, Ok(self.record_of(from, to)));
-        let first = self.places[from].first;
-        let count = self.places[from..=to].iter().map(|place| place.count).sum();
-        self.places.splice(from..=to, [Place { first, count, record: answer.ok() }]);
+        let first = self.list[from].first;
+        let count = self.list[from..=to].iter().map(|segment| segment.count).sum();
+        self.list.splice(from..=to, [Segment { first, count, record: answer.ok() }]);
     }
 
-    /// Joins the records of any filled places, in any order, and leaves the rack as it is.
+    /// Joins the records of any filled segments, in any order, and leaves the segments as they are.
     pub fn join_call(&self, bench: &mut Bench, indices: &[usize], as_pair: bool) -> Result<Vec<u8>, u8> {
         let records: Vec<&[u8]> = indices.iter().map(|&at| self.record(at)).collect();
         let list = records.concat();
@@ -113,41 +113,41 @@ impl Rack {
         }
     }
 
-    /// Whether two of these places in turn do not follow each other: the table's condition for 8.
+    /// Whether two of these segments in turn do not follow each other: the table's condition for 8.
     pub fn out_of_turn(&self, indices: &[usize]) -> bool {
-        let end = |at: usize| self.places[at].first + self.places[at].count;
-        indices.windows(2).any(|pair| end(pair[0]) != self.places[pair[1]].first)
+        let end = |at: usize| self.list[at].first + self.list[at].count;
+        indices.windows(2).any(|pair| end(pair[0]) != self.list[pair[1]].first)
     }
 
     pub fn filled(&self) -> Vec<usize> {
-        (0..self.places.len()).filter(|&at| self.places[at].record.is_some()).collect()
+        (0..self.list.len()).filter(|&at| self.list[at].record.is_some()).collect()
     }
 
     pub fn empty(&self) -> Vec<usize> {
-        (0..self.places.len()).filter(|&at| self.places[at].record.is_none()).collect()
+        (0..self.list.len()).filter(|&at| self.list[at].record.is_none()).collect()
     }
 
     pub fn record(&self, at: usize) -> &[u8] {
-        self.places[at].record.as_deref().expect("a filled place")
+        self.list[at].record.as_deref().expect("a filled segment")
     }
 
-    /// The record of the blocks of some places, by its definition.
+    /// The record of the blocks of consecutive segments, by its definition.
     fn record_of(&self, from: usize, to: usize) -> Vec<u8> {
-        let first = self.places[from].first;
-        let end = self.places[to].first + self.places[to].count;
+        let first = self.list[from].first;
+        let end = self.list[to].first + self.list[to].count;
         let middletexts = &self.unbroken.middletexts[first..end];
         let preauthenticator = middletexts.iter().fold(0, |sum, middletext| times_x(sum) ^ middletext);
         let numbers = [(first as u32).to_be_bytes(), ((end - first) as u32).to_be_bytes()].concat();
         [&numbers[..], &u128::to_be_bytes(preauthenticator)].concat()
     }
 
-    /// Each filled place has the record of its blocks, and the places follow each other.
-    pub fn check_places(&self) {
+    /// Each filled segment has the record of its blocks, and the segments follow each other.
+    pub fn check_all(&self) {
         let mut next = 0;
-        for (at, place) in self.places.iter().enumerate() {
-            assert_eq!(place.first, next);
-            next += place.count;
-            assert!(place.record.iter().all(|record| *record == self.record_of(at, at)));
+        for (at, segment) in self.list.iter().enumerate() {
+            assert_eq!(segment.first, next);
+            next += segment.count;
+            assert!(segment.record.iter().all(|record| *record == self.record_of(at, at)));
         }
         assert_eq!(next, self.unbroken.middletexts.len());
     }
@@ -173,12 +173,12 @@ impl Unbroken {
 }
 
 /// Cuts blocks into runs, empty ones too. The last run of a message has a block at least.
-fn cut(blocks: usize, sealing: bool, random: &mut Random) -> Vec<Place> {
+fn cut(blocks: usize, sealing: bool, random: &mut Random) -> Vec<Segment> {
     let cuts = random.below(9);
     let highest = blocks - usize::from(sealing);
     let mut ends: Vec<_> = (0..cuts).map(|_| random.within(0, highest)).collect();
     ends.sort_unstable();
     ends.push(blocks);
     let starts = [0].into_iter().chain(ends.clone());
-    starts.zip(&ends).map(|(first, end)| Place { first, count: end - first, record: None }).collect()
+    starts.zip(&ends).map(|(first, end)| Segment { first, count: end - first, record: None }).collect()
 }
