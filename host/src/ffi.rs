@@ -1,4 +1,4 @@
-//! The functions of the proved static library. All of the crate's `unsafe` is here.
+//! The functions of the proved static library, on slices. All of the crate's `unsafe` calls are here.
 //!
 //! Each wrapper hands its slices over as pointer and length. It gives back the library's number, which is 0 or that of the
 //! refusal, and the reported length where there is one.
@@ -7,42 +7,7 @@
 //! Slices are valid for their length, and an exclusive borrow overlaps no other borrow. The library keeps no pointer, never
 //! writes an input, and answers all lengths, bytes and numbers.
 
-#[rustfmt::skip]
-extern "C" {
-    fn balzenoh_seal(
-        key: *const u8, key_len: usize, iv: *const u8, iv_len: usize, message: *const u8, message_len: usize,
-        out: *mut u8, out_len: usize, length: *mut usize,
-    ) -> u8;
-    fn balzenoh_open(
-        key: *const u8, key_len: usize, sealed: *const u8, sealed_len: usize,
-        out: *mut u8, out_len: usize, length: *mut usize,
-    ) -> u8;
-    fn balzenoh_seal_run(
-        key: *const u8, key_len: usize, iv: *const u8, iv_len: usize, first: u32, last: u8, bytes: *const u8, bytes_len: usize,
-        out: *mut u8, out_len: usize, length: *mut usize, run: *mut u8, run_len: usize,
-    ) -> u8;
-    fn balzenoh_check_run(
-        key: *const u8, key_len: usize, iv: *const u8, iv_len: usize, first: u32, bytes: *const u8, bytes_len: usize,
-        run: *mut u8, run_len: usize,
-    ) -> u8;
-    fn balzenoh_join(
-        left: *const u8, left_len: usize, right: *const u8, right_len: usize, run: *mut u8, run_len: usize,
-    ) -> u8;
-    fn balzenoh_join_list(
-        records: *const u8, records_len: usize, run: *mut u8, run_len: usize,
-    ) -> u8;
-    fn balzenoh_close(
-        key: *const u8, key_len: usize, iv: *const u8, iv_len: usize, run: *const u8, run_len: usize,
-        tag: *mut u8, tag_len: usize,
-    ) -> u8;
-    fn balzenoh_test(
-        key: *const u8, key_len: usize, iv: *const u8, iv_len: usize, run: *const u8, run_len: usize,
-        tag: *const u8, tag_len: usize,
-    ) -> u8;
-    fn balzenoh_jump(
-        mask: *const u8, mask_len: usize, distance: u32, out: *mut u8, out_len: usize,
-    ) -> u8;
-}
+use crate::abi::*;
 
 #[rustfmt::skip]
 pub fn seal(key: &[u8], iv: &[u8], message: &[u8], out: &mut [u8]) -> (u8, usize) {

@@ -36,6 +36,7 @@
 
 #![deny(unsafe_code)]
 
+mod abi;
 #[allow(unsafe_code)]
 mod ffi;
 pub mod hex;

@@ -1,26 +1,16 @@
 //! What only a caller in C sees: the reported length after a refusal, and every value of `last`.
 
+#[allow(dead_code)]
+#[path = "../../src/abi.rs"]
+mod abi;
+
+use abi::{balzenoh_open, balzenoh_seal, balzenoh_seal_run};
+
 use crate::support::call::Call;
 use crate::support::fips197::Fips197;
 use crate::support::mode::{padded, Mode};
 use crate::support::random::Random;
 use crate::support::reference;
-
-#[rustfmt::skip]
-extern "C" {
-    fn balzenoh_seal(
-        key: *const u8, key_len: usize, iv: *const u8, iv_len: usize, message: *const u8, message_len: usize,
-        out: *mut u8, out_len: usize, length: *mut usize,
-    ) -> u8;
-    fn balzenoh_open(
-        key: *const u8, key_len: usize, sealed: *const u8, sealed_len: usize,
-        out: *mut u8, out_len: usize, length: *mut usize,
-    ) -> u8;
-    fn balzenoh_seal_run(
-        key: *const u8, key_len: usize, iv: *const u8, iv_len: usize, first: u32, last: u8, bytes: *const u8, bytes_len: usize,
-        out: *mut u8, out_len: usize, length: *mut usize, run: *mut u8, run_len: usize,
-    ) -> u8;
-}
 
 /// A length that no answer has.
 const NOISE: usize = 0x5A5A_5A5A;
