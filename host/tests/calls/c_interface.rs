@@ -1,10 +1,12 @@
-//! What only a caller in C sees: the reported length after a refusal, and every value of `last`.
+//! What only a caller in C sees: the reported length after a refusal, every value of `last`, and null pointers.
 
 #[allow(dead_code)]
 #[path = "../../src/abi.rs"]
 mod abi;
 
-use abi::{balzenoh_open, balzenoh_seal, balzenoh_seal_run};
+use std::ptr::{null, null_mut};
+
+use abi::{balzenoh_check_run, balzenoh_join_list, balzenoh_open, balzenoh_seal, balzenoh_seal_run};
 
 use crate::support::call::Call;
 use crate::support::fips197::Fips197;
@@ -70,4 +72,27 @@ fn anything_but_0_is_a_last_run() {
         let call = Call::SealRun { key: &key, iv: &iv, first: 7, last: last != 0, bytes: &bytes, room: 48, record_room: 24 };
         check(&call, last, &mut random);
     }
+}
+
+/// An empty message and empty runs, with null pointers wherever a length is 0.
+#[test]
+#[rustfmt::skip]
+fn a_null_pointer_of_length_0_is_answered() {
+    let (key, iv, no) = ([7; 16], [9; 16], null::<u8>());
+    let (mut out, mut run, mut length) = ([0xA5; 48], [0xA5; 24], NOISE);
+    let (key, iv, out, run) = (key.as_ptr(), iv.as_ptr(), out.as_mut_ptr(), run.as_mut_ptr());
+    // SAFETY: pointers valid for their lengths, or null where the length is 0; the outputs are distinct.
+    let numbers = unsafe {
+        [
+            balzenoh_seal(no, 0, no, 0, no, 0, null_mut(), 0, &mut length),
+            balzenoh_seal(key, 16, iv, 16, no, 0, null_mut(), 0, &mut length),
+            balzenoh_seal(key, 16, iv, 16, no, 0, out, 48, &mut length),
+            balzenoh_open(key, 16, no, 0, null_mut(), 0, &mut length),
+            balzenoh_seal_run(key, 16, iv, 16, 5, 0, no, 0, null_mut(), 0, &mut length, run, 24),
+            balzenoh_seal_run(key, 16, iv, 16, 5, 0, no, 0, null_mut(), 0, &mut length, null_mut(), 0),
+            balzenoh_check_run(key, 16, iv, 16, 5, no, 0, run, 24),
+            balzenoh_join_list(no, 0, run, 24),
+        ]
+    };
+    assert_eq!(numbers, [1, 5, 0, 3, 0, 5, 0, 9]);
 }
