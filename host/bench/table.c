@@ -69,6 +69,7 @@ void print_expectations(const struct figures *f) {
     expect("seal over AES encrypt, Balzenoh", over_aes(f, SEAL, ENCRYPT, OURS), 0.93);
     expect("open over AES decrypt, Balzenoh", over_aes(f, OPEN, DECRYPT, OURS), 0.93);
     expect("4000 steps by bytes over jump by 4000", f->steps_bytes / f->jump_far, 8);
+    expect("4000 steps by 64-bit words over jump by 4000", f->steps_words / f->jump_far, 8);
     expect("one thread over two, one list", f->one_thread / f->two_threads, 1.8);
     expect("one thread over two, eight lists", f->one_thread_lists / f->two_threads_lists, 1.8);
     expect("one thread over two, one list, second waiting", f->one_thread / f->with_helper, 1.8);

@@ -55,7 +55,8 @@
  * never written.
  *
  * There is no state, no heap and no initialisation: any call may be made from any thread at any
- * time. The functions do not recurse; a few kilobytes of stack are enough.
+ * time. Some six kilobytes of stack were seen to be used, most of it by a jump, which recurses as often
+ * as its distance has binary digits, at most 12 deep. No proof bounds the stack.
  *
  * REFUSALS
  *
