@@ -18,7 +18,7 @@ fn double(x: u8) -> u8
 }
 
 // Round key n added to a state.
-pub fn add_round_key(s: [u8; 16], keys: &[u8; 176], n: usize) -> [u8; 16]
+pub(crate) fn add_round_key(s: [u8; 16], keys: &[u8; 176], n: usize) -> [u8; 16]
     requires { ⌜ length (now keys) ≡ 176 ⌝ }
     requires { ⌜ n < 11 ⌝ }
     ensures { λ r. ⌜ r ≡ addRoundKey s (getD (firstBlocks 11 (now (keys .entry))) n []) ⌝ }
@@ -31,7 +31,7 @@ pub fn add_round_key(s: [u8; 16], keys: &[u8; 176], n: usize) -> [u8; 16]
 }
 
 // SubBytes and ShiftRows at once.
-pub fn sub_shift(s: [u8; 16], sbox: &[u8; 256]) -> [u8; 16]
+pub(crate) fn sub_shift(s: [u8; 16], sbox: &[u8; 256]) -> [u8; 16]
     requires { ⌜ Tabulates (now sbox) sboxOf ⌝ }
     ensures { λ r. ⌜ r ≡ shiftRows (subBytes s) ⌝ }
 {
@@ -43,7 +43,7 @@ pub fn sub_shift(s: [u8; 16], sbox: &[u8; 256]) -> [u8; 16]
 }
 
 // InvShiftRows and InvSubBytes at once.
-pub fn inv_shift_sub(s: [u8; 16], inv_sbox: &[u8; 256]) -> [u8; 16]
+pub(crate) fn inv_shift_sub(s: [u8; 16], inv_sbox: &[u8; 256]) -> [u8; 16]
     requires { ⌜ Tabulates (now «inv_sbox») invSbox ⌝ }
     ensures { λ r. ⌜ r ≡ invSubBytes (invShiftRows s) ⌝ }
 {
@@ -61,7 +61,7 @@ fn mix(a: u8, b: u8, c: u8, d: u8) -> u8
     double(a ^ b) ^ (b ^ (c ^ d))
 }
 
-pub fn mix_columns(s: [u8; 16]) -> [u8; 16]
+pub(crate) fn mix_columns(s: [u8; 16]) -> [u8; 16]
     ensures { λ r. ⌜ r ≡ mixColumns s ⌝ }
 {
     let mut r = [0u8; 16];
@@ -88,7 +88,7 @@ fn even(a: u8, c: u8) -> u8
 }
 
 // The matrix of InvMixColumns is that of MixColumns times the circulant of 05, 00, 04, 00.
-pub fn inv_mix_columns(s: [u8; 16]) -> [u8; 16]
+pub(crate) fn inv_mix_columns(s: [u8; 16]) -> [u8; 16]
     ensures { λ r. ⌜ r ≡ invMixColumns s ⌝ }
 {
     let mut r = [0u8; 16];
