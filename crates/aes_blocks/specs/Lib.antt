@@ -1,2 +1,3 @@
--- EachBlock: a cipher applied to each block by itself.
+-- EachBlock: a cipher applied to each block by itself. Started: what both directions start from.
 pub mod EachBlock
+pub mod Started
