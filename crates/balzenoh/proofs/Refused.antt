@@ -10,7 +10,7 @@ use Rattle.mode.specs.Mode.{plaintext}
 use Rattle.mode.specs.Aes.{aes}
 use Rattle.mode.specs.Table.{Answer, refused, given, decide}
 use Rattle.mode.specs.Calls.{Outcome, outcomeBy, Kind, sealRunRows, blocksOfRun, passFrom, runRecord, sealRun, number, runAnswerOf}
-use Rattle.balzenoh.specs.Exports.{lentRows, lent, lentRecord, recordOf, keptLength, keptOutput}
+use Rattle.balzenoh.specs.Exports.{lentRows, lent, lentRecord, recordPart, keptLength, keptOutput}
 
 -- of the outcome of any call
 pub zero-after : {A : Type 0} (d : Answer A) (bytes : List ℕ) (room : ℕ) → (number ((outcomeBy d bytes room) .answer) ≡ 0 → ⊥)
@@ -32,8 +32,8 @@ call-refused f n bytes room e h z = h (ap (λ (t : Bool). number ((outcomeBy (co
 -- of a run: the ciphertext, its length and the record
 pub run-zero : (key iv : List ℕ) (first : ℕ) (kind : Kind) (bytes : List ℕ) (size room : ℕ)
     → let o = sealRun aes key iv first kind bytes size in
-    (number ((lentRecord (recordOf (runAnswerOf o)) room) .answer) ≡ 0 → ⊥)
-    → (keptOutput o size room ≡ zeros size) × ((keptLength o room ≡ 0) × ((lentRecord (recordOf (runAnswerOf o)) room) .output ≡ zeros room))
+    (number ((lentRecord (recordPart (runAnswerOf o)) room) .answer) ≡ 0 → ⊥)
+    → (keptOutput o size room ≡ zeros size) × ((keptLength o room ≡ 0) × ((lentRecord (recordPart (runAnswerOf o)) room) .output ≡ zeros room))
 unfolding sealRun runAnswerOf keptOutput keptLength
 run-zero key iv first kind bytes size room h =
     let x = by (ltb room 24) refl in

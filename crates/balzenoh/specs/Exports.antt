@@ -57,8 +57,8 @@ testBytes key iv r tag = cond (notRecord r) 24 (number (test aes key iv (decoded
 -- ---- SEAL A RUN
 
 -- the record's part in the answer to a run
-abbrev pub recordOf : RunAnswer → RecordAnswer
-recordOf a = record { refusal = a .refusal; run = a .run }
+abbrev pub recordPart : RunAnswer → RecordAnswer
+recordPart a = record { refusal = a .refusal; run = a .run }
 
 -- where there is no room for the record, the ciphertext is not kept: an output of `size` bytes is zeros
 unfoldable pub keptLength : Outcome RunRecord → ℕ → ℕ

@@ -9,7 +9,7 @@ ghost use Rattle.mode.specs.Aes.{aes};
 ghost use Rattle.mode.specs.Table.{tooShort};
 ghost use Rattle.mode.specs.Calls.{sealRun, checkRun, runAnswerOf, recordAnswerOf, number};
 ghost use Rattle.calls.specs.Layout.{kindOf};
-ghost use Rattle.balzenoh.specs.Exports.{lentRecord, recordOf, keptLength, keptOutput};
+ghost use Rattle.balzenoh.specs.Exports.{lentRecord, recordPart, keptLength, keptOutput};
 
 // Where its record has no room, a run's ciphertext is not kept.
 fn keep(length: usize, room: usize, out: &mut [u8]) -> usize
@@ -35,10 +35,10 @@ pub extern "C" fn balzenoh_seal_run(
     length: &mut usize,
     run: &mut [u8],
 ) -> u8
-    ensures answer { λ n. ⌜ n ≡ number ((lentRecord (recordOf (runAnswerOf (sealRun aes (now (key .entry)) (now (iv .entry)) first (kindOf (not (eqb last 0))) (now (bytes .entry)) (lengthOf (now (out .entry)))))) (lengthOf (now (run .entry)))) .answer) ⌝ }
+    ensures answer { λ n. ⌜ n ≡ number ((lentRecord (recordPart (runAnswerOf (sealRun aes (now (key .entry)) (now (iv .entry)) first (kindOf (not (eqb last 0))) (now (bytes .entry)) (lengthOf (now (out .entry)))))) (lengthOf (now (run .entry)))) .answer) ⌝ }
     ensures written { λ _. ⌜ now (length .exit) ≡ keptLength (sealRun aes (now (key .entry)) (now (iv .entry)) first (kindOf (not (eqb last 0))) (now (bytes .entry)) (lengthOf (now (out .entry)))) (lengthOf (now (run .entry))) ⌝ }
     ensures output { λ _. ⌜ now (out .exit) ≡ keptOutput (sealRun aes (now (key .entry)) (now (iv .entry)) first (kindOf (not (eqb last 0))) (now (bytes .entry)) (lengthOf (now (out .entry)))) (lengthOf (now (out .entry))) (lengthOf (now (run .entry))) ⌝ }
-    ensures record { λ _. ⌜ now (run .exit) ≡ (lentRecord (recordOf (runAnswerOf (sealRun aes (now (key .entry)) (now (iv .entry)) first (kindOf (not (eqb last 0))) (now (bytes .entry)) (lengthOf (now (out .entry)))))) (lengthOf (now (run .entry)))) .output ⌝ }
+    ensures record { λ _. ⌜ now (run .exit) ≡ (lentRecord (recordPart (runAnswerOf (sealRun aes (now (key .entry)) (now (iv .entry)) first (kindOf (not (eqb last 0))) (now (bytes .entry)) (lengthOf (now (out .entry)))))) (lengthOf (now (run .entry)))) .output ⌝ }
 {
     let answer = calls::run::seal_run(key, iv, first, last != 0, bytes, out);
     *length = keep(answer.length, run.len(), out);

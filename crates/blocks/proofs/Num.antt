@@ -14,9 +14,9 @@ use lib.Pow.{pow-add, mod-pow-add}
 use lib.Seq.{take-suc}
 use Rattle.blocks.specs.Bytes.{Bytes, Block, xorBytes, zeros}
 use Rattle.blocks.specs.Field.{step, steps}
-use Rattle.blocks.specs.Gf128.{fallen, shiftLeft, reduction, timesX, jump, num, bytesOf}
+use Rattle.blocks.specs.Gf128.{carry, shiftLeft, reduction, timesX, jump, num, lowBytes}
 use Rattle.blocks.proofs.XorBytes.{length-xor}
-use Rattle.blocks.proofs.TimesX.{fallen-lt, length-shift, length-reduction, bytes-shift, bytes-reduction, block-jump}
+use Rattle.blocks.proofs.TimesX.{carry-lt, length-shift, length-reduction, bytes-shift, bytes-reduction, block-jump}
 
 pub wide : (n : ℕ) → 2 ^ (suc n * 8) ≡ 2 ^ (n * 8) * 256
 wide n = ap (λ (z : ℕ). 2 ^ z) (suc-mul n 8) ∙ pow-add 2 (n * 8) 8
@@ -49,29 +49,29 @@ num-injective (x ∷ a) (y ∷ b) e ha hb h =
 pub same-block : {a b : List ℕ} → Block a → Block b → num a ≡ num b → a ≡ b
 same-block {a} {b} ha hb h = num-injective a b (ha .long ∙ sym (hb .long)) (ha .bytes) (hb .bytes) h
 
-length-bytesOf : (n v : ℕ) → length (bytesOf n v) ≡ n
-unfolding bytesOf
-length-bytesOf zero v = refl
-length-bytesOf (suc n) v = ap suc (length-bytesOf n v)
+length-lowBytes : (n v : ℕ) → length (lowBytes n v) ≡ n
+unfolding lowBytes
+length-lowBytes zero v = refl
+length-lowBytes (suc n) v = ap suc (length-lowBytes n v)
 
-bytes-bytesOf : (n v : ℕ) → Bytes (bytesOf n v)
-unfolding bytesOf
-bytes-bytesOf zero v i = lit< tt
-bytes-bytesOf (suc n) v zero = mod-lt (v / 2 ^ (n * 8)) (lit< tt)
-bytes-bytesOf (suc n) v (suc i) = bytes-bytesOf n v i
+bytes-lowBytes : (n v : ℕ) → Bytes (lowBytes n v)
+unfolding lowBytes
+bytes-lowBytes zero v i = lit< tt
+bytes-lowBytes (suc n) v zero = mod-lt (v / 2 ^ (n * 8)) (lit< tt)
+bytes-lowBytes (suc n) v (suc i) = bytes-lowBytes n v i
 
-pub block-bytesOf : (v : ℕ) → Block (bytesOf 16 v)
-block-bytesOf v = record { long = length-bytesOf 16 v; bytes = bytes-bytesOf 16 v }
+pub block-lowBytes : (v : ℕ) → Block (lowBytes 16 v)
+block-lowBytes v = record { long = length-lowBytes 16 v; bytes = bytes-lowBytes 16 v }
 
-num-low-bytes : (n v : ℕ) → num (bytesOf n v) ≡ v % 2 ^ (n * 8)
-unfolding num bytesOf
+num-low-bytes : (n v : ℕ) → num (lowBytes n v) ≡ v % 2 ^ (n * 8)
+unfolding num lowBytes
 num-low-bytes zero v = let e : 0 ≡ v % 1 = omega arith in e
 num-low-bytes (suc n) v =
-    ap₂ (λ (m z : ℕ). v / 2 ^ (n * 8) % 256 * 2 ^ (m * 8) + z) (length-bytesOf n v) (num-low-bytes n v)
+    ap₂ (λ (m z : ℕ). v / 2 ^ (n * 8) % 256 * 2 ^ (m * 8) + z) (length-lowBytes n v) (num-low-bytes n v)
     ∙ sym (ap (λ (z : ℕ). v % 2 ^ z) (suc-mul n 8 ∙ add-comm (n * 8) 8) ∙ mod-pow-add v 8 (n * 8))
 
-pub num-bytesOf : (v : ℕ) → v < 2 ^ 128 → num (bytesOf 16 v) ≡ v
-num-bytesOf v h = num-low-bytes 16 v ∙ mod-eq-of-lt h
+pub num-lowBytes : (v : ℕ) → v < 2 ^ 128 → num (lowBytes 16 v) ≡ v
+num-lowBytes v h = num-low-bytes 16 v ∙ mod-eq-of-lt h
 
 -- ---- one list after another
 
@@ -132,15 +132,15 @@ carried x t w s n ih =
     ap (λ (z : ℕ). z * w) (sym (div-add-mod' x 128)) ∙ add-mul (x / 128 * 128) (x % 128) w ∙ ap (λ (z : ℕ). z + x % 128 * w) (swap (x / 128) 128 w) in
     omega arith
 
-num-shift : (a : List ℕ) → Bytes a → num (shiftLeft a) + fallen a * 2 ^ (length a * 8) ≡ num a * 2
-unfolding num shiftLeft fallen
+num-shift : (a : List ℕ) → Bytes a → num (shiftLeft a) + carry a * 2 ^ (length a * 8) ≡ num a * 2
+unfolding num shiftLeft carry
 num-shift [] h = refl
 num-shift (x ∷ a) h =
     let b : x / 128 % 2 ≡ x / 128 = omega (arith, h 0) in
-    ap (λ (n : ℕ). bitXor (x * 2 % 256) (fallen a) * 2 ^ (n * 8) + num (shiftLeft a) + x / 128 % 2 * 2 ^ (suc (length a) * 8)) (length-shift a)
-    ∙ ap₂ (λ (y t : ℕ). y * 2 ^ (length a * 8) + num (shiftLeft a) + t * 2 ^ (suc (length a) * 8)) (low-sum x (fallen a) (fallen-lt a)) b
-    ∙ ap (λ (w : ℕ). (x % 128 * 2 + fallen a) * 2 ^ (length a * 8) + num (shiftLeft a) + x / 128 * w) (wide (length a))
-    ∙ carried x (fallen a) (2 ^ (length a * 8)) (num (shiftLeft a)) (num a) (num-shift a (λ i. h (suc i)))
+    ap (λ (n : ℕ). bitXor (x * 2 % 256) (carry a) * 2 ^ (n * 8) + num (shiftLeft a) + x / 128 % 2 * 2 ^ (suc (length a) * 8)) (length-shift a)
+    ∙ ap₂ (λ (y t : ℕ). y * 2 ^ (length a * 8) + num (shiftLeft a) + t * 2 ^ (suc (length a) * 8)) (low-sum x (carry a) (carry-lt a)) b
+    ∙ ap (λ (w : ℕ). (x % 128 * 2 + carry a) * 2 ^ (length a * 8) + num (shiftLeft a) + x / 128 * w) (wide (length a))
+    ∙ carried x (carry a) (2 ^ (length a * 8)) (num (shiftLeft a)) (num a) (num-shift a (λ i. h (suc i)))
 
 num-reduction : (t : ℕ) → num (reduction t) ≡ t * 0x87
 unfolding reduction num
@@ -149,25 +149,25 @@ num-reduction t = let e : 0 + (t * 0x87 * 1 + 0) ≡ t * 0x87 = omega arith in n
 -- ---- multiply by x, and the jump
 
 module _ (b : List ℕ) (h : Block b) where
-  shifted : fallen b * 2 ^ 128 + num (shiftLeft b) ≡ num b * 2
-  shifted = add-comm (fallen b * 2 ^ 128) (num (shiftLeft b)) ∙ ap (λ (n : ℕ). num (shiftLeft b) + fallen b * 2 ^ (n * 8)) (sym (h .long)) ∙ num-shift b (h .bytes)
+  shifted : carry b * 2 ^ 128 + num (shiftLeft b) ≡ num b * 2
+  shifted = add-comm (carry b * 2 ^ 128) (num (shiftLeft b)) ∙ ap (λ (n : ℕ). num (shiftLeft b) + carry b * 2 ^ (n * 8)) (sym (h .long)) ∙ num-shift b (h .bytes)
 
   shift-lt : num (shiftLeft b) < 2 ^ 128
   shift-lt = subst (λ (n : ℕ). num (shiftLeft b) < 2 ^ (n * 8)) (length-shift b ∙ h .long) (num-lt (shiftLeft b) (bytes-shift b))
 
   num-low : num (shiftLeft b) ≡ num b * 2 % 2 ^ 128
-  num-low = sym (digits-mod (fallen b) shift-lt) ∙ ap (λ (n : ℕ). n % 2 ^ 128) shifted
+  num-low = sym (digits-mod (carry b) shift-lt) ∙ ap (λ (n : ℕ). n % 2 ^ 128) shifted
 
-  num-top : fallen b ≡ num b / 2 ^ 127 % 2
+  num-top : carry b ≡ num b / 2 ^ 127 % 2
   num-top =
-      sym (mod-eq-of-lt (fallen-lt b))
-      ∙ ap (λ (n : ℕ). n % 2) (sym (digits-div (fallen b) shift-lt) ∙ ap (λ (n : ℕ). n / 2 ^ 128) shifted ∙ mul-div-mul-right (num b) (2 ^ 127) (lit< tt))
+      sym (mod-eq-of-lt (carry-lt b))
+      ∙ ap (λ (n : ℕ). n % 2) (sym (digits-div (carry b) shift-lt) ∙ ap (λ (n : ℕ). n / 2 ^ 128) shifted ∙ mul-div-mul-right (num b) (2 ^ 127) (lit< tt))
 
   pub num-timesX : num (timesX b) ≡ step 127 0x87 (num b)
   unfolding timesX step
   num-timesX =
-      num-xorBytes (shiftLeft b) (reduction (fallen b)) (length-shift b ∙ h .long ∙ sym (length-reduction (fallen b))) (bytes-shift b) (bytes-reduction (fallen b) (fallen-lt b))
-      ∙ ap₂ bitXor num-low (num-reduction (fallen b) ∙ ap (λ (n : ℕ). n * 0x87) num-top)
+      num-xorBytes (shiftLeft b) (reduction (carry b)) (length-shift b ∙ h .long ∙ sym (length-reduction (carry b))) (bytes-shift b) (bytes-reduction (carry b) (carry-lt b))
+      ∙ ap₂ bitXor num-low (num-reduction (carry b) ∙ ap (λ (n : ℕ). n * 0x87) num-top)
 
 pub num-jump : (n : ℕ) (b : List ℕ) → Block b → num (jump n b) ≡ steps 127 0x87 n (num b)
 unfolding jump steps

@@ -11,18 +11,18 @@ use Rattle.blocks.specs.Gf128.{jump, num, product, one, power}
 use Rattle.blocks.proofs.Field.{mul-right, mul-one, mul-comm, mul-assoc, mul-lt, mul-steps, power-mul}
 use Rattle.blocks.proofs.XorBytes.{block-xor}
 use Rattle.blocks.proofs.TimesX.{block-jump, block-one}
-use Rattle.blocks.proofs.Num.{same-block, block-lt, block-bytesOf, num-bytesOf, num-xor, num-jump}
+use Rattle.blocks.proofs.Num.{same-block, block-lt, block-lowBytes, num-lowBytes, num-xor, num-jump}
 
 pub poly-lt : 0x87 < 2 ^ 128
 poly-lt = lit< tt
 
 pub block-product : (a b : List ℕ) → Block (product a b)
 unfolding product
-block-product a b = block-bytesOf (mul 127 0x87 (num a) (num b))
+block-product a b = block-lowBytes (mul 127 0x87 (num a) (num b))
 
 pub num-product : (a b : List ℕ) → Block b → num (product a b) ≡ mul 127 0x87 (num a) (num b)
 unfolding product
-num-product a b hb = num-bytesOf (mul 127 0x87 (num a) (num b)) (mul-lt 127 0x87 poly-lt (num a) (num b) (block-lt b hb))
+num-product a b hb = num-lowBytes (mul 127 0x87 (num a) (num b)) (mul-lt 127 0x87 poly-lt (num a) (num b) (block-lt b hb))
 
 -- a block that has the product's number is the product
 pub product-is : (a b r : List ℕ) → Block b → Block r → num r ≡ mul 127 0x87 (num a) (num b) → r ≡ product a b

@@ -9,16 +9,16 @@ use lib.Bits.{bitXor, bitAnd, bitOr, xor-mod, xor-shr, xor-shifted, or-shifted, 
 use lib.Dec.{lit<}
 use lib.ListN.{length, getD, getD-replicate, List·getD-append, List·getD-eq-default}
 use Rattle.blocks.specs.Bytes.{Bytes, Block, xorBytes, zeros}
-use Rattle.blocks.specs.Gf128.{fallen, shiftLeft, reduction, timesX, jump, one, power}
+use Rattle.blocks.specs.Gf128.{carry, shiftLeft, reduction, timesX, jump, one, power}
 use Rattle.blocks.proofs.Test.{bytes-by}
 use Rattle.blocks.proofs.Xor.{two-pos, bit-xor, xor-swap, xor8}
 use Rattle.blocks.proofs.Linear.{double, scale-bit}
 use Rattle.blocks.proofs.XorBytes.{length-xor, bytes-xor, getD-xor, xorBytes-swap}
 
-pub fallen-lt : (a : List ℕ) → fallen a < 2
-unfolding fallen
-fallen-lt [] = two-pos
-fallen-lt (x ∷ a) = mod-lt (x / 128) two-pos
+pub carry-lt : (a : List ℕ) → carry a < 2
+unfolding carry
+carry-lt [] = two-pos
+carry-lt (x ∷ a) = mod-lt (x / 128) two-pos
 
 -- ---- blocks go to blocks
 
@@ -33,12 +33,12 @@ length-reduction bit = refl
 
 pub length-timesX : (b : List ℕ) → length b ≡ 16 → length (timesX b) ≡ 16
 unfolding timesX
-length-timesX b e = length-xor (shiftLeft b) (reduction (fallen b)) (length-shift b ∙ e ∙ sym (length-reduction (fallen b))) ∙ length-shift b ∙ e
+length-timesX b e = length-xor (shiftLeft b) (reduction (carry b)) (length-shift b ∙ e ∙ sym (length-reduction (carry b))) ∙ length-shift b ∙ e
 
 pub bytes-shift : (a : List ℕ) → Bytes (shiftLeft a)
 unfolding shiftLeft
 bytes-shift [] i = lit< tt
-bytes-shift (x ∷ a) zero = xor8 (x * 2 % 256) (fallen a) (mod-lt (x * 2) (lit< tt)) (lt-of-lt-of-le (fallen-lt a) (omega arith))
+bytes-shift (x ∷ a) zero = xor8 (x * 2 % 256) (carry a) (mod-lt (x * 2) (lit< tt)) (lt-of-lt-of-le (carry-lt a) (omega arith))
 bytes-shift (x ∷ a) (suc i) = bytes-shift a i
 
 pub bytes-reduction : (bit : ℕ) → bit < 2 → Bytes (reduction bit)
@@ -51,7 +51,7 @@ pub block-timesX : (b : List ℕ) → length b ≡ 16 → Block (timesX b)
 unfolding timesX
 block-timesX b e = record {
   long = length-timesX b e;
-  bytes = bytes-xor (shiftLeft b) (reduction (fallen b)) (length-shift b ∙ e ∙ sym (length-reduction (fallen b))) (bytes-shift b) (bytes-reduction (fallen b) (fallen-lt b));
+  bytes = bytes-xor (shiftLeft b) (reduction (carry b)) (length-shift b ∙ e ∙ sym (length-reduction (carry b))) (bytes-shift b) (bytes-reduction (carry b) (carry-lt b));
 }
 
 pub length-jump : (n : ℕ) (b : List ℕ) → length b ≡ 16 → length (jump n b) ≡ 16
@@ -74,12 +74,12 @@ block-power n = block-jump n one block-one
 
 -- ---- through exclusive or
 
-fallen-xor : (a b : List ℕ) → length a ≡ length b → fallen (xorBytes a b) ≡ bitXor (fallen a) (fallen b)
-unfolding fallen xorBytes
-fallen-xor [] [] e = refl
-fallen-xor [] (y ∷ b) e = absurd (omega arith)
-fallen-xor (x ∷ a) [] e = absurd (omega arith)
-fallen-xor (x ∷ a) (y ∷ b) e = ap (λ (z : ℕ). z % 2) (xor-shr x y 7) ∙ xor-mod (x / 128) (y / 128) 1
+carry-xor : (a b : List ℕ) → length a ≡ length b → carry (xorBytes a b) ≡ bitXor (carry a) (carry b)
+unfolding carry xorBytes
+carry-xor [] [] e = refl
+carry-xor [] (y ∷ b) e = absurd (omega arith)
+carry-xor (x ∷ a) [] e = absurd (omega arith)
+carry-xor (x ∷ a) (y ∷ b) e = ap (λ (z : ℕ). z % 2) (xor-shr x y 7) ∙ xor-mod (x / 128) (y / 128) 1
 
 shift-xor : (a b : List ℕ) → length a ≡ length b → shiftLeft (xorBytes a b) ≡ xorBytes (shiftLeft a) (shiftLeft b)
 unfolding shiftLeft xorBytes
@@ -88,8 +88,8 @@ shift-xor [] (y ∷ b) e = absurd (omega arith)
 shift-xor (x ∷ a) [] e = absurd (omega arith)
 shift-xor (x ∷ a) (y ∷ b) e =
     ap₂ (λ (h : ℕ) (t : List ℕ). h ∷ t)
-    (ap₂ bitXor (ap (λ (z : ℕ). z % 256) (double x y) ∙ xor-mod (x * 2) (y * 2) 8) (fallen-xor a b (suc-inj e))
-    ∙ xor-swap (x * 2 % 256) (y * 2 % 256) (fallen a) (fallen b))
+    (ap₂ bitXor (ap (λ (z : ℕ). z % 256) (double x y) ∙ xor-mod (x * 2) (y * 2) 8) (carry-xor a b (suc-inj e))
+    ∙ xor-swap (x * 2 % 256) (y * 2 % 256) (carry a) (carry b))
     (shift-xor a b (suc-inj e))
 
 reduction-xor : (s t : ℕ) → s < 2 → t < 2 → reduction (bitXor s t) ≡ xorBytes (reduction s) (reduction t)
@@ -99,8 +99,8 @@ reduction-xor s t hs ht = ap (λ (z : ℕ). zeros 15 ++ (z ∷ [])) (ap (λ (z :
 pub timesX-xor : (a b : List ℕ) → length a ≡ length b → timesX (xorBytes a b) ≡ xorBytes (timesX a) (timesX b)
 unfolding timesX
 timesX-xor a b e =
-    ap₂ xorBytes (shift-xor a b e) (ap reduction (fallen-xor a b e) ∙ reduction-xor (fallen a) (fallen b) (fallen-lt a) (fallen-lt b))
-    ∙ xorBytes-swap (shiftLeft a) (shiftLeft b) (reduction (fallen a)) (reduction (fallen b))
+    ap₂ xorBytes (shift-xor a b e) (ap reduction (carry-xor a b e) ∙ reduction-xor (carry a) (carry b) (carry-lt a) (carry-lt b))
+    ∙ xorBytes-swap (shiftLeft a) (shiftLeft b) (reduction (carry a)) (reduction (carry b))
 
 pub jump-xor : (n : ℕ) (a b : List ℕ) → length a ≡ 16 → length b ≡ 16 → jump n (xorBytes a b) ≡ xorBytes (jump n a) (jump n b)
 unfolding jump
@@ -117,13 +117,13 @@ jump-add (suc n) m b = ap (λ (z : ℕ). jump z b) (suc-add n m) ∙ ap timesX (
 
 -- ---- as the code does it: a byte's seven low bits, and the top bit of the next byte
 
-pub fallen-at : (b : List ℕ) → Bytes b → fallen b ≡ getD b 0 0 / 128
-unfolding fallen
-fallen-at [] h = refl
-fallen-at (x ∷ b) h = omega (arith, h 0)
+pub carry-at : (b : List ℕ) → Bytes b → carry b ≡ getD b 0 0 / 128
+unfolding carry
+carry-at [] h = refl
+carry-at (x ∷ b) h = omega (arith, h 0)
 
-pub carry : (x t : ℕ) → t < 2 → bitOr (bitAnd x 0x7f * 2 % 256) t ≡ bitXor (x * 2 % 256) t
-carry x t h =
+pub carry-or : (x t : ℕ) → t < 2 → bitOr (bitAnd x 0x7f * 2 % 256) t ≡ bitXor (x * 2 % 256) t
+carry-or x t h =
     let e : x % 128 * 2 % 256 ≡ x % 128 * 2 = omega arith in
     let f : x % 128 * 2 ≡ x * 2 % 256 = omega arith in
     ap (λ (z : ℕ). bitOr (z * 2 % 256) t) (and-mask x 7) ∙ ap (λ (z : ℕ). bitOr z t) e ∙ or-shifted (x % 128) 1 t h
@@ -132,15 +132,15 @@ carry x t h =
 getD-shift : (b : List ℕ) (i : ℕ) → Bytes b → getD (shiftLeft b) i 0 ≡ bitXor (getD b i 0 * 2 % 256) (getD b (suc i) 0 / 128)
 unfolding shiftLeft
 getD-shift [] i h = refl
-getD-shift (x ∷ b) zero h = ap (bitXor (x * 2 % 256)) (fallen-at b (λ i. h (suc i)))
+getD-shift (x ∷ b) zero h = ap (bitXor (x * 2 % 256)) (carry-at b (λ i. h (suc i)))
 getD-shift (x ∷ b) (suc i) h = getD-shift b i (λ j. h (suc j))
 
 getD-timesX : (b : List ℕ) (i : ℕ) → Block b
     → getD (timesX b) i 0 ≡ bitXor (bitXor (getD b i 0 * 2 % 256) (getD b (suc i) 0 / 128)) (getD (reduction (getD b 0 0 / 128)) i 0)
 unfolding timesX
 getD-timesX b i h =
-    getD-xor (shiftLeft b) (reduction (fallen b)) i (length-shift b ∙ h .long ∙ sym (length-reduction (fallen b)))
-    ∙ ap₂ (λ (x t : ℕ). bitXor x (getD (reduction t) i 0)) (getD-shift b i (h .bytes)) (fallen-at b (h .bytes))
+    getD-xor (shiftLeft b) (reduction (carry b)) i (length-shift b ∙ h .long ∙ sym (length-reduction (carry b)))
+    ∙ ap₂ (λ (x t : ℕ). bitXor x (getD (reduction t) i 0)) (getD-shift b i (h .bytes)) (carry-at b (h .bytes))
 
 -- a byte but the last
 pub timesX-low : (b : List ℕ) (i : ℕ) → Block b → i < 15 → bitOr (bitAnd (getD b i 0) 0x7f * 2 % 256) (getD b (i + 1) 0 / 128) ≡ getD (timesX b) i 0
@@ -149,7 +149,7 @@ timesX-low b i h l =
     let t = getD b (suc i) 0 / 128 in
     let k : t < 2 = omega (arith, h .bytes (suc i)) in
     let z : getD (zeros 15 ++ (getD b 0 0 / 128 * 0x87 ∷ [])) i 0 ≡ 0 = List·getD-append (zeros 15) (getD b 0 0 / 128 * 0x87 ∷ []) 0 i l ∙ getD-replicate 15 i 0 0 l in
-    ap (λ (j : ℕ). bitOr (bitAnd (getD b i 0) 0x7f * 2 % 256) (getD b j 0 / 128)) (add-one i) ∙ carry (getD b i 0) t k
+    ap (λ (j : ℕ). bitOr (bitAnd (getD b i 0) 0x7f * 2 % 256) (getD b j 0 / 128)) (add-one i) ∙ carry-or (getD b i 0) t k
     ∙ sym (getD-timesX b i h ∙ ap (bitXor (bitXor (getD b i 0 * 2 % 256) t)) z ∙ xor-zero-r (bitXor (getD b i 0 * 2 % 256) t))
 
 -- the last, with 87 where a one fell out

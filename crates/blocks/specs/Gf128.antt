@@ -8,14 +8,14 @@ use Rattle.blocks.specs.Bytes.{xorBytes, zeros}
 use Rattle.blocks.specs.Field.{mul}
 
 -- the bit that falls out in a shift to the left: the top bit of the first byte
-unfoldable pub fallen : List ℕ → ℕ
-fallen [] = 0
-fallen (x ∷ b) = x / 128 % 2
+unfoldable pub carry : List ℕ → ℕ
+carry [] = 0
+carry (x ∷ b) = x / 128 % 2
 
 -- the whole shifted left by one bit: a byte takes the top bit of the next one as its low bit
 unfoldable pub shiftLeft : List ℕ → List ℕ
 shiftLeft [] = []
-shiftLeft (x ∷ b) = bitXor (x * 2 % 256) (fallen b) ∷ shiftLeft b
+shiftLeft (x ∷ b) = bitXor (x * 2 % 256) (carry b) ∷ shiftLeft b
 
 -- 87 in the last byte where a one fell out
 unfoldable pub reduction : ℕ → List ℕ
@@ -23,7 +23,7 @@ reduction bit = zeros 15 ++ (bit * 0x87 ∷ [])
 
 -- Multiply by the variable: shift the whole left by one bit; if a one fell out, add 87 to the last byte by exclusive or.
 unfoldable pub timesX : List ℕ → List ℕ
-timesX b = xorBytes (shiftLeft b) (reduction (fallen b))
+timesX b = xorBytes (shiftLeft b) (reduction (carry b))
 
 -- the jump by n blocks: n times that
 unfoldable pub jump : ℕ → List ℕ → List ℕ
@@ -38,12 +38,12 @@ num [] = 0
 num (x ∷ b) = x * 2 ^ (length b * 8) + num b
 
 -- the n low bytes of a number, the highest first
-unfoldable pub bytesOf : ℕ → ℕ → List ℕ
-bytesOf zero v = []
-bytesOf (suc n) v = v / 2 ^ (n * 8) % 256 ∷ bytesOf n v
+unfoldable pub lowBytes : ℕ → ℕ → List ℕ
+lowBytes zero v = []
+lowBytes (suc n) v = v / 2 ^ (n * 8) % 256 ∷ lowBytes n v
 
 unfoldable pub product : List ℕ → List ℕ → List ℕ
-product a b = bytesOf 16 (mul 127 0x87 (num a) (num b))
+product a b = lowBytes 16 (mul 127 0x87 (num a) (num b))
 
 -- the polynomial 1, and x^n
 unfoldable pub one : List ℕ

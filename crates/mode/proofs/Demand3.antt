@@ -14,7 +14,7 @@ use Rattle.blocks.specs.Bytes.{same, concat}
 use Rattle.mode.specs.Mode.{Cipher, Lawful, ciphertext, RunRecord, pass, unbroken, unbrokenTag, tagFrom, recordOf, startMask, blocksOf, padded, zeroBlock, cipherPart, tagPart, UnbrokenCheck}
 use Rattle.mode.specs.Table.{Answer, refused, given, decide, beyond, anyBeyond, apart, none, notWhole, limit}
 use Rattle.mode.specs.Calls.{Kind, middle, last, blocksOfRun, unalignedRun, Outcome, outcomeBy, joined, joinedOnto, joinedAll, joinTwo, joinList, closingTag, close, test, callsOf}
-use Rattle.mode.specs.Parallel.{Work, sealing, checking, sourceOf, ivOf, textOf, lastKind, allBlocks, Fits, Cut, Setting, WellFormed, Run, runsFrom, Segment, pending, recorded, blocksOfRuns, runsIn, recordIn, bytesIn, isRecorded, runsOf, bytesOf, blocksIn, noSegment, segment, Call, runAt, joinPair, joinMany, consecutive, AllRecorded, recordsAt, MayStand, mergeBy, recordBy, headOr, firstRun, empties, start, lent, outcomeOfRun, runOutcome, answerOf, after, afterAll, EachCall}
+use Rattle.mode.specs.Parallel.{Work, sealing, checking, sourceOf, ivOf, textOf, lastKind, allBlocks, Fits, Cut, Setting, WellFormed, Run, runsFrom, Segment, pending, recorded, blocksOfRuns, runsIn, recordIn, bytesIn, isRecorded, runsOf, bytesOfSegments, blocksIn, noSegment, segment, Call, runAt, joinPair, joinMany, consecutive, AllRecorded, recordsAt, Allowed, mergeBy, recordBy, headOr, firstRun, empties, start, roomOf, outcomeOfRun, runOutcome, answerOf, after, afterAll, EachCall}
 use Rattle.mode.specs.Demands.{whole, wholeTag, recordOfSegments, ciphertextOfSegment, AsSaid, TestedAs, Whole, Demand3}
 use Rattle.mode.proofs.Laws.{AllLong, all-left, all-right, mask-there}
 use Rattle.mode.proofs.Blocks.{blocksOf-append, long-blocks, padded-append, count-middle, count-last, aligned, run-long}
@@ -190,7 +190,7 @@ module _ (c : Cipher) (laws : Lawful c) (s : Setting) (wf : WellFormed s) where
     run-said i room h e =
         ap (λ (x : Segment). outcomeOfRun (callsOf c) key w (firstRun (runsIn x)) room) is
         ∙ run-outcome c laws key (wf .key-long) w (wf .fits) before r room good bound
-        ∙ ap₂ (λ (o : List ℕ) (a : RunRecord). outcomeBy (cond (leb (length o) (lent w room)) (given a) (refused 5)) o (lent w room))
+        ∙ ap₂ (λ (o : List ℕ) (a : RunRecord). outcomeBy (cond (leb (length o) (roomOf w room)) (given a) (refused 5)) o (roomOf w room))
         (ap (outputOf c key w before) (sym these) ∙ sym (ciphertext-there i)) (ap (recordFor c key w before) (sym these))
       where
         before : List (List ℕ)
@@ -303,7 +303,7 @@ module _ (c : Cipher) (laws : Lawful c) (s : Setting) (wf : WellFormed s) where
         rest = drop (suc k) (drop i xs)
 
         new : Segment
-        new = recorded (runsOf (take (suc k) (drop i xs))) (recordOfSegments c s xs i (suc k)) (bytesOf (take (suc k) (drop i xs)))
+        new = recorded (runsOf (take (suc k) (drop i xs))) (recordOfSegments c s xs i (suc k)) (bytesOfSegments (take (suc k) (drop i xs)))
 
         outer : Sound c key w [] (take i xs) × Sound c key w (blocksIn (take i xs)) (take (suc k) (drop i xs) ++ drop (suc k) (drop i xs))
         outer = sound-split c key w [] (take i xs) (take (suc k) (drop i xs) ++ drop (suc k) (drop i xs)) (subst (Sound c key w []) (sym (three xs i (suc k))) (inv .sound))
@@ -352,11 +352,11 @@ module _ (c : Cipher) (laws : Lawful c) (s : Setting) (wf : WellFormed s) where
     refused-inv a n i k e = subst (λ (a : Answer RunRecord). Inv c s (mergeBy a xs i k)) (sym e) (unfold mergeBy in inv)
 
     -- one call
-    step : (call : Call) → MayStand xs call → AsSaid c (callsOf c) s xs call × Inv c s (after (callsOf c) s xs call)
-    unfolding MayStand after answerOf
+    step : (call : Call) → Allowed xs call → AsSaid c (callsOf c) s xs call × Inv c s (after (callsOf c) s xs call)
+    unfolding Allowed after answerOf
     step (runAt i room) m = (
       run-said i room (m .0) (m .1),
-      run-inv i (lent w room) (m .0) (runOutcome (callsOf c) s xs i room) (leb (length (ciphertextOfSegment c s xs i)) (lent w room)) (unfold AsSaid in (run-said i room (m .0) (m .1))),
+      run-inv i (roomOf w room) (m .0) (runOutcome (callsOf c) s xs i room) (leb (length (ciphertextOfSegment c s xs i)) (roomOf w room)) (unfold AsSaid in (run-said i room (m .0) (m .1))),
     )
     step (joinPair i j) m =
         (unfold AsSaid in (pair-neighbours i j (m .0), pair-apart i j (m .0)), by (m .1))
@@ -383,7 +383,7 @@ module _ (c : Cipher) (laws : Lawful c) (s : Setting) (wf : WellFormed s) where
         by (inr (inr e)) = refused-inv (joinList (recordsAt xs is)) 8 (headOr 0 is) (length is) (list-apart is (m .0) e)
 
   -- any list of calls
-  steps : (xs : List Segment) (calls : List Call) → Inv c s xs → EachCall (callsOf c) s MayStand xs calls
+  steps : (xs : List Segment) (calls : List Call) → Inv c s xs → EachCall (callsOf c) s Allowed xs calls
       → EachCall (callsOf c) s (AsSaid c (callsOf c) s) xs calls × Inv c s (afterAll (callsOf c) s xs calls)
   unfolding EachCall afterAll
   steps xs [] inv m = (tt, inv)

@@ -6,7 +6,7 @@ use Prim.Native.Nat.{ℕ, zero, suc, _+_}
 use native.Mathlib.Nat.{add-comm}
 use lib.ListN.{length, length-append}
 use Rattle.blocks.specs.Bytes.{xorBytes}
-use Rattle.blocks.specs.Gf128.{timesX, jump, fallen, shiftLeft, reduction}
+use Rattle.blocks.specs.Gf128.{timesX, jump, carry, shiftLeft, reduction}
 use Rattle.blocks.proofs.XorBytes.{xorBytes-zeros, xorBytes-comm, xorBytes-assoc, length-xor}
 use Rattle.blocks.proofs.TimesX.{length-timesX, length-jump, jump-xor, jump-add}
 use Rattle.blocks.specs.Bytes.{same}
@@ -34,7 +34,7 @@ jump-next zero b = refl
 jump-next (suc n) b = ap timesX (jump-next n b)
 
 zero-timesX : timesX zeroBlock ≡ zeroBlock
-unfolding timesX fallen shiftLeft reduction xorBytes
+unfolding timesX carry shiftLeft reduction xorBytes
 zero-timesX = refl
 
 zero-xor : (t : List ℕ) → length t ≡ 16 → xorBytes zeroBlock t ≡ t

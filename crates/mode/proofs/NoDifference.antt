@@ -6,7 +6,7 @@ use Prim.Native.Nat.{ℕ}
 use Rattle.mode.specs.Mode.{Cipher, Lawful, RunRecord, plaintext, blocksOf, padded, unbrokenTag, sealedRecord}
 use Rattle.mode.specs.Table.{given}
 use Rattle.mode.specs.Calls.{callsOf, close, blocksOfRun}
-use Rattle.mode.specs.Parallel.{Work, sealing, ivOf, sourceOf, textOf, lastKind, allBlocks, WellFormed, Run, recorded, Call, MayStand, start, afterAll, EachCall}
+use Rattle.mode.specs.Parallel.{Work, sealing, ivOf, sourceOf, textOf, lastKind, allBlocks, WellFormed, Run, recorded, Call, Allowed, start, afterAll, EachCall}
 use Rattle.mode.specs.Demands.{Whole, whole, wholeTag}
 use Rattle.mode.proofs.Demand3.{demand3}
 
@@ -15,7 +15,7 @@ pub record Done (c : Cipher) (key : List ℕ) (work : Work) (r : RunRecord) (byt
   pub pieces : List (List ℕ)
   pub formed : WellFormed (record { key = key; work = work; pieces = pieces })
   pub calls : List Call
-  pub may : EachCall (callsOf c) (record { key = key; work = work; pieces = pieces }) MayStand (start (record { key = key; work = work; pieces = pieces })) calls
+  pub may : EachCall (callsOf c) (record { key = key; work = work; pieces = pieces }) Allowed (start (record { key = key; work = work; pieces = pieces })) calls
   pub runs : List Run
   pub one-left : afterAll (callsOf c) (record { key = key; work = work; pieces = pieces }) (start (record { key = key; work = work; pieces = pieces })) calls ≡ recorded runs r bytes ∷ []
 

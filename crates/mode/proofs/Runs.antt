@@ -15,7 +15,7 @@ use Rattle.blocks.proofs.TimesX.{length-timesX, length-jump, jump-add}
 use Rattle.mode.specs.Mode.{Cipher, Lawful, Source, plaintext, ciphertext, RunRecord, zeroBlock, startMask, middletext, written, pass, unbroken, recordOf, blocksOf, ivPart}
 use Rattle.mode.specs.Table.{Answer, refused, given, decide, not16, beyond, limit}
 use Rattle.mode.specs.Calls.{unalignedRun, Kind, middle, last, blocksOfRun, outcomeBy, passFrom, runRecord, sealRun, checkRun, callsOf}
-use Rattle.mode.specs.Parallel.{Work, sealing, checking, sourceOf, ivOf, Fits, Run, lent, outcomeOfRun}
+use Rattle.mode.specs.Parallel.{Work, sealing, checking, sourceOf, ivOf, Fits, Run, roomOf, outcomeOfRun}
 use Rattle.mode.proofs.Laws.{AllLong, all-left, all-right, same-record, output-append, start-long, mask-there, middle-long, xor-long}
 use Rattle.mode.proofs.Blocks.{run-long}
 
@@ -160,10 +160,10 @@ module _ (c : Cipher) (laws : Lawful c) (key : List ℕ) (key-long : length key 
       → length before + length (blocksOfRun (r .kind) (r .bytes)) ≤ limit
       → outcomeOfRun (callsOf c) key w r room
       ≡ outcomeBy
-      (cond (leb (length (outputOf c key w before (blocksOfRun (r .kind) (r .bytes)))) (lent w room))
+      (cond (leb (length (outputOf c key w before (blocksOfRun (r .kind) (r .bytes)))) (roomOf w room))
       (given (recordFor c key w before (blocksOfRun (r .kind) (r .bytes)))) (refused 5))
-      (outputOf c key w before (blocksOfRun (r .kind) (r .bytes))) (lent w room)
-  unfolding outcomeOfRun lent sealRun decide ivOf sourceOf Suits
+      (outputOf c key w before (blocksOfRun (r .kind) (r .bytes))) (roomOf w room)
+  unfolding outcomeOfRun roomOf sealRun decide ivOf sourceOf Suits
   run-outcome (sealing iv message) fit before r room good bound =
       ap₂ (λ (a : Answer RunRecord) (o : List ℕ). outcomeBy a o room)
       (rows

@@ -12,7 +12,7 @@ use borrow.Author.Tests.{eq-eqb}
 use Rattle.mode.specs.Mode.{Cipher, Lawful, RunRecord, pass, recordOf}
 use Rattle.mode.specs.Table.{beyond, anyBeyond, apart, limit}
 use Rattle.mode.specs.Calls.{blocksOfRun, joined, joinedOnto, joinedAll}
-use Rattle.mode.specs.Parallel.{Work, sourceOf, ivOf, Fits, Run, Segment, pending, recorded, blocksOfRuns, runsIn, recordIn, bytesIn, isRecorded, runsOf, bytesOf, blocksIn, noSegment, segment, consecutive, AllRecorded, recordsAt}
+use Rattle.mode.specs.Parallel.{Work, sourceOf, ivOf, Fits, Run, Segment, pending, recorded, blocksOfRuns, runsIn, recordIn, bytesIn, isRecorded, runsOf, bytesOfSegments, blocksIn, noSegment, segment, consecutive, AllRecorded, recordsAt}
 use Rattle.mode.proofs.Laws.{AllLong, all-left, record-append}
 use Rattle.mode.proofs.Runs.{GoodRun, outputOf, recordFor, outputOf-append, iv-long, within}
 
@@ -196,8 +196,8 @@ module _ (c : Cipher) (laws : Lawful c) (key : List ℕ) (key-long : length key 
       ∙ ap (recordFor c key w before) (sym (blocksIn-cons (recorded rs a bytes) ys))
 
   -- what neighbours wrote, in order
-  pub bytes-all : (before : List (List ℕ)) (ys : List Segment) → Sound c key w before ys → Recs ys → bytesOf ys ≡ outputOf c key w before (blocksIn ys)
-  unfolding bytesOf bytesIn isRecorded runsIn
+  pub bytes-all : (before : List (List ℕ)) (ys : List Segment) → Sound c key w before ys → Recs ys → bytesOfSegments ys ≡ outputOf c key w before (blocksIn ys)
+  unfolding bytesOfSegments bytesIn isRecorded runsIn
   bytes-all before [] s r = sym (ap (outputOf c key w before) blocksIn-nil ∙ (unfold outputOf pass in refl))
   bytes-all before (pending a ∷ ys) s r = not-both (r .0)
   bytes-all before (recorded rs a bytes ∷ ys) s r =

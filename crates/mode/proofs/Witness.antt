@@ -9,11 +9,11 @@ use lib.ListN.{length, take, getD, replicate}
 use lib.Dec.{lit<, lit≤, ltb}
 use lib.Bits.{bitXor}
 use Rattle.blocks.specs.Bytes.{xorBytes, firstBlocks, same, concat}
-use Rattle.blocks.specs.Gf128.{timesX, jump, fallen, shiftLeft, reduction}
+use Rattle.blocks.specs.Gf128.{timesX, jump, carry, shiftLeft, reduction}
 use Rattle.mode.specs.Mode.{Cipher, Lawful, plaintext, ciphertext, RunRecord, blocksOf, padded, encrypt, startMask, middletext, written, pass, unbroken, recordOf, ivPart, cipherPart, tagPart, tagFrom, unbrokenTag, sealedRecord}
 use Rattle.mode.specs.Table.{Answer, refused, given, decide, not16, unaligned, beyond, anyBeyond, apart, none, notSealed}
 use Rattle.mode.specs.Calls.{unalignedRun, Kind, last, blocksOfRun, Outcome, outcomeBy, joined, joinedOnto, joinedAll, blank, joinTwo, joinList, passFrom, runRecord, sealRun, checkRun, close, test, Calls, callsOf, openSealed, openRows, notPadded, orEmpty, unpadded, unpadFrom, plaintextOf, decrypted}
-use Rattle.mode.specs.Parallel.{sealing, checking, sourceOf, ivOf, textOf, lastKind, allBlocks, Fits, Cut, Setting, WellFormed, Run, runsFrom, Segment, recorded, blocksOfRuns, runsIn, recordIn, bytesIn, isRecorded, runsOf, bytesOf, blocksIn, Call, runAt, joinPair, joinMany, consecutive, AllRecorded, MayStand, mergeBy, recordBy, headOr, firstRun, empties, start, lent, outcomeOfRun, runOutcome, answerOf, after, afterAll, EachCall}
+use Rattle.mode.specs.Parallel.{sealing, checking, sourceOf, ivOf, textOf, lastKind, allBlocks, Fits, Cut, Setting, WellFormed, Run, runsFrom, Segment, recorded, blocksOfRuns, runsIn, recordIn, bytesIn, isRecorded, runsOf, bytesOfSegments, blocksIn, Call, runAt, joinPair, joinMany, consecutive, AllRecorded, Allowed, mergeBy, recordBy, headOr, firstRun, empties, start, roomOf, outcomeOfRun, runOutcome, answerOf, after, afterAll, EachCall}
 use Rattle.mode.specs.Demands.{whole, recordOfSegments, ciphertextOfSegment, AsSaid, Agrees, Demand3}
 use Rattle.mode.proofs.Demand3.{demand3}
 
@@ -58,8 +58,8 @@ callsA =
     runAt 0 15 ∷ runAt 0 16 ∷ runAt 3 20 ∷ joinMany (3 ∷ 0 ∷ []) ∷ joinMany [] ∷ runAt 1 0 ∷ joinPair 0 0 ∷ joinPair 0 1 ∷ joinMany (0 ∷ []) ∷ runAt 1 16
     ∷ joinMany (0 ∷ 1 ∷ 2 ∷ []) ∷ []
 
-may-stand : EachCall (callsOf toy) cutA MayStand (start cutA) callsA
-unfolding EachCall MayStand AllRecorded start empties runsFrom lastKind isRecorded recordIn runsIn runsOf bytesIn bytesOf after answerOf runOutcome outcomeOfRun firstRun recordBy mergeBy headOr sealRun joinTwo joinList decide outcomeBy not16 unalignedRun unaligned beyond anyBeyond apart none blocksOfRun blocksOf firstBlocks padded runRecord passFrom joinedAll joinedOnto joined consecutive
+may-stand : EachCall (callsOf toy) cutA Allowed (start cutA) callsA
+unfolding EachCall Allowed AllRecorded start empties runsFrom lastKind isRecorded recordIn runsIn runsOf bytesIn bytesOfSegments after answerOf runOutcome outcomeOfRun firstRun recordBy mergeBy headOr sealRun joinTwo joinList decide outcomeBy not16 unalignedRun unaligned beyond anyBeyond apart none blocksOfRun blocksOf firstBlocks padded runRecord passFrom joinedAll joinedOnto joined consecutive
 may-stand = (
   (lit< tt, refl),
   (
@@ -94,12 +94,12 @@ numbers xs (call ∷ calls) = numberOf (answerOf (callsOf toy) cutA xs call) ∷
 
 -- the refused calls among them got 5, 8, 9 and 8
 numbersA : numbers (start cutA) callsA ≡ (5 ∷ 0 ∷ 0 ∷ 8 ∷ 9 ∷ 0 ∷ 8 ∷ 0 ∷ 0 ∷ 0 ∷ 0 ∷ [])
-unfolding numbers numberOf start empties runsFrom lastKind isRecorded recordIn runsIn runsOf bytesIn bytesOf after answerOf runOutcome outcomeOfRun firstRun recordBy mergeBy headOr sealRun joinTwo joinList decide outcomeBy not16 unalignedRun unaligned beyond anyBeyond apart none blocksOfRun blocksOf firstBlocks padded runRecord passFrom joinedAll joinedOnto joined consecutive
+unfolding numbers numberOf start empties runsFrom lastKind isRecorded recordIn runsIn runsOf bytesIn bytesOfSegments after answerOf runOutcome outcomeOfRun firstRun recordBy mergeBy headOr sealRun joinTwo joinList decide outcomeBy not16 unalignedRun unaligned beyond anyBeyond apart none blocksOfRun blocksOf firstBlocks padded runRecord passFrom joinedAll joinedOnto joined consecutive
 numbersA = refl
 
 -- and a single filled place is left, of which `single` speaks
 single-left : (rs : List Run) × (r : RunRecord) × (bytes : List ℕ) × (afterAll (callsOf toy) cutA (start cutA) callsA ≡ recorded rs r bytes ∷ [])
-unfolding afterAll start empties runsFrom lastKind isRecorded recordIn runsIn runsOf bytesIn bytesOf after answerOf runOutcome outcomeOfRun firstRun recordBy mergeBy headOr sealRun joinTwo joinList decide outcomeBy not16 unalignedRun unaligned beyond anyBeyond apart none blocksOfRun blocksOf firstBlocks padded runRecord passFrom joinedAll joinedOnto joined consecutive
+unfolding afterAll start empties runsFrom lastKind isRecorded recordIn runsIn runsOf bytesIn bytesOfSegments after answerOf runOutcome outcomeOfRun firstRun recordBy mergeBy headOr sealRun joinTwo joinList decide outcomeBy not16 unalignedRun unaligned beyond anyBeyond apart none blocksOfRun blocksOf firstBlocks padded runRecord passFrom joinedAll joinedOnto joined consecutive
 single-left = (_, _, _, refl)
 
 -- ---- a ciphertext of two blocks, checked in two pieces, joined as a pair
@@ -114,8 +114,8 @@ cutB-formed = record { key-long = refl; fits = (lit≤ tt, lit≤ tt, refl); cut
 callsB : List Call
 callsB = runAt 1 0 ∷ runAt 0 0 ∷ joinPair 1 0 ∷ joinPair 0 1 ∷ []
 
-may-standB : EachCall (callsOf toy) cutB MayStand (start cutB) callsB
-unfolding callsB EachCall MayStand AllRecorded start empties runsFrom lastKind isRecorded recordIn runsIn runsOf bytesIn bytesOf after answerOf runOutcome outcomeOfRun firstRun recordBy mergeBy headOr checkRun joinTwo joinList decide outcomeBy not16 unalignedRun unaligned beyond anyBeyond apart none blocksOfRun blocksOf firstBlocks padded runRecord passFrom joinedAll joinedOnto joined consecutive ivPart
+may-standB : EachCall (callsOf toy) cutB Allowed (start cutB) callsB
+unfolding callsB EachCall Allowed AllRecorded start empties runsFrom lastKind isRecorded recordIn runsIn runsOf bytesIn bytesOfSegments after answerOf runOutcome outcomeOfRun firstRun recordBy mergeBy headOr checkRun joinTwo joinList decide outcomeBy not16 unalignedRun unaligned beyond anyBeyond apart none blocksOfRun blocksOf firstBlocks padded runRecord passFrom joinedAll joinedOnto joined consecutive ivPart
 may-standB = ((lit< tt, refl), ((lit< tt, refl), (((refl, (refl, tt)), inr refl), (((refl, (refl, tt)), inl refl), tt))))
 
 -- ---- wrong calls, refuted
@@ -153,12 +153,12 @@ skipping =
 abbrev callsC : List Call
 callsC = runAt 0 16 ∷ runAt 1 16 ∷ runAt 2 16 ∷ joinMany (0 ∷ 1 ∷ 2 ∷ []) ∷ []
 
-may-skip : EachCall skipping cutC MayStand (start cutC) callsC
-unfolding EachCall MayStand AllRecorded start empties runsFrom lastKind isRecorded recordIn runsIn runsOf bytesIn bytesOf after answerOf runOutcome outcomeOfRun firstRun recordBy mergeBy headOr sealRun decide outcomeBy not16 unalignedRun unaligned beyond anyBeyond apart none blocksOfRun blocksOf firstBlocks padded runRecord passFrom joined firstPair consecutive
+may-skip : EachCall skipping cutC Allowed (start cutC) callsC
+unfolding EachCall Allowed AllRecorded start empties runsFrom lastKind isRecorded recordIn runsIn runsOf bytesIn bytesOfSegments after answerOf runOutcome outcomeOfRun firstRun recordBy mergeBy headOr sealRun decide outcomeBy not16 unalignedRun unaligned beyond anyBeyond apart none blocksOfRun blocksOf firstBlocks padded runRecord passFrom joined firstPair consecutive
 may-skip = ((lit< tt, refl), ((lit< tt, refl), ((lit< tt, refl), (((refl, (refl, (refl, tt))), inl (0, 2, refl)), tt))))
 
 pub skipping-refuted : Demand3 toy skipping → ⊥
-unfolding afterAll start empties runsFrom lastKind isRecorded recordIn runsIn runsOf bytesIn bytesOf after answerOf runOutcome outcomeOfRun firstRun recordBy mergeBy headOr sealRun decide outcomeBy not16 unalignedRun unaligned beyond anyBeyond apart none blocksOfRun blocksOf firstBlocks padded runRecord passFrom joined firstPair consecutive recordOfSegments recordOf blocksIn blocksOfRuns
+unfolding afterAll start empties runsFrom lastKind isRecorded recordIn runsIn runsOf bytesIn bytesOfSegments after answerOf runOutcome outcomeOfRun firstRun recordBy mergeBy headOr sealRun decide outcomeBy not16 unalignedRun unaligned beyond anyBeyond apart none blocksOfRun blocksOf firstBlocks padded runRecord passFrom joined firstPair consecutive recordOfSegments recordOf blocksIn blocksOfRuns
 skipping-refuted d =
     let e : _≡_ {A = ℕ} 2 3 = ap (λ (r : RunRecord). r .count) ((d cutC cutC-formed callsC may-skip) .records 0 refl) in
     omega arith
@@ -181,12 +181,12 @@ rightly =
 abbrev callsD : List Call
 callsD = runAt 0 16 ∷ runAt 1 16 ∷ joinPair 0 1 ∷ []
 
-may-right : EachCall rightly cutC MayStand (start cutC) callsD
-unfolding EachCall MayStand AllRecorded start empties runsFrom lastKind isRecorded recordIn runsIn runsOf bytesIn bytesOf after answerOf runOutcome outcomeOfRun firstRun recordBy mergeBy headOr sealRun decide outcomeBy not16 unalignedRun unaligned beyond anyBeyond apart none blocksOfRun blocksOf firstBlocks padded runRecord passFrom joined rightTimes consecutive
+may-right : EachCall rightly cutC Allowed (start cutC) callsD
+unfolding EachCall Allowed AllRecorded start empties runsFrom lastKind isRecorded recordIn runsIn runsOf bytesIn bytesOfSegments after answerOf runOutcome outcomeOfRun firstRun recordBy mergeBy headOr sealRun decide outcomeBy not16 unalignedRun unaligned beyond anyBeyond apart none blocksOfRun blocksOf firstBlocks padded runRecord passFrom joined rightTimes consecutive
 may-right = ((lit< tt, refl), ((lit< tt, refl), (((refl, (refl, tt)), inl refl), tt)))
 
 pub rightly-refuted : Demand3 toy rightly → ⊥
-unfolding afterAll start empties runsFrom lastKind isRecorded recordIn runsIn runsOf bytesIn bytesOf after answerOf runOutcome outcomeOfRun firstRun recordBy mergeBy headOr sealRun decide outcomeBy not16 unalignedRun unaligned beyond anyBeyond apart none blocksOfRun blocksOf firstBlocks padded runRecord passFrom joined rightTimes consecutive recordOfSegments recordOf blocksIn blocksOfRuns sourceOf ivOf unbroken pass middletext written startMask encrypt same xorBytes timesX jump fallen shiftLeft reduction
+unfolding afterAll start empties runsFrom lastKind isRecorded recordIn runsIn runsOf bytesIn bytesOfSegments after answerOf runOutcome outcomeOfRun firstRun recordBy mergeBy headOr sealRun decide outcomeBy not16 unalignedRun unaligned beyond anyBeyond apart none blocksOfRun blocksOf firstBlocks padded runRecord passFrom joined rightTimes consecutive recordOfSegments recordOf blocksIn blocksOfRuns sourceOf ivOf unbroken pass middletext written startMask encrypt same xorBytes timesX jump carry shiftLeft reduction
 rightly-refuted d =
     let e : _≡_ {A = ℕ} 1 2 = ap (λ (r : RunRecord). getD (r .preauthenticator) 0 0) ((d cutC cutC-formed callsD may-right) .records 0 refl) in
     omega arith
@@ -207,12 +207,12 @@ byLength key iv first kind bytes room =
 abbrev pub lengthwise : Calls
 lengthwise = record { seals-run = byLength; checks-run = checkRun toy; joins-two = joinTwo; joins-list = joinList; closes = close toy; tests = test toy }
 
-may-length : EachCall lengthwise cutC MayStand (start cutC) (runAt 0 16 ∷ [])
-unfolding EachCall MayStand start empties runsFrom lastKind isRecorded
+may-length : EachCall lengthwise cutC Allowed (start cutC) (runAt 0 16 ∷ [])
+unfolding EachCall Allowed start empties runsFrom lastKind isRecorded
 may-length = ((lit< tt, refl), tt)
 
 pub lengthwise-refuted : Demand3 toy lengthwise → ⊥
-unfolding EachCall AsSaid start empties runsFrom lastKind isRecorded recordIn runsIn runsOf runOutcome outcomeOfRun firstRun byLength preauthIn decide outcomeBy beyond blocksOfRun blocksOf firstBlocks padded runRecord passFrom recordOfSegments recordOf blocksIn blocksOfRuns sourceOf ivOf unbroken pass middletext written startMask encrypt same xorBytes timesX jump fallen shiftLeft reduction ciphertextOfSegment whole allBlocks textOf lent
+unfolding EachCall AsSaid start empties runsFrom lastKind isRecorded recordIn runsIn runsOf runOutcome outcomeOfRun firstRun byLength preauthIn decide outcomeBy beyond blocksOfRun blocksOf firstBlocks padded runRecord passFrom recordOfSegments recordOf blocksIn blocksOfRuns sourceOf ivOf unbroken pass middletext written startMask encrypt same xorBytes timesX jump carry shiftLeft reduction ciphertextOfSegment whole allBlocks textOf roomOf
 lengthwise-refuted d =
     let e : _≡_ {A = ℕ} 7 1 = ap (λ (o : Outcome RunRecord). getD (preauthIn (o .answer)) 0 0) ((d cutC cutC-formed (runAt 0 16 ∷ []) may-length) .answers .0) in
     omega arith
@@ -221,8 +221,8 @@ lengthwise-refuted d =
 abbrev pub refusing : Calls
 refusing = record { seals-run = sealRun toy; checks-run = checkRun toy; joins-two = joinTwo; joins-list = λ rs. refused 8; closes = close toy; tests = test toy }
 
-may-refuse : EachCall refusing cutC MayStand (start cutC) (runAt 0 16 ∷ joinMany (0 ∷ []) ∷ [])
-unfolding EachCall MayStand AllRecorded start empties runsFrom lastKind isRecorded recordIn runsIn after answerOf runOutcome outcomeOfRun firstRun recordBy sealRun decide outcomeBy not16 unalignedRun unaligned beyond blocksOfRun blocksOf firstBlocks padded runRecord passFrom consecutive
+may-refuse : EachCall refusing cutC Allowed (start cutC) (runAt 0 16 ∷ joinMany (0 ∷ []) ∷ [])
+unfolding EachCall Allowed AllRecorded start empties runsFrom lastKind isRecorded recordIn runsIn after answerOf runOutcome outcomeOfRun firstRun recordBy sealRun decide outcomeBy not16 unalignedRun unaligned beyond blocksOfRun blocksOf firstBlocks padded runRecord passFrom consecutive
 may-refuse = ((lit< tt, refl), (((refl, tt), inl (0, 0, refl)), tt))
 
 pub refusing-refuted : Demand3 toy refusing → ⊥
@@ -238,11 +238,11 @@ abbrev sealedA : List ℕ
 sealedA = sealedRecord toy (replicate 16 1) (replicate 16 2) (5 ∷ 6 ∷ 7 ∷ [])
 
 opens : (openSealed toy (replicate 16 1) sealedA 16) .answer ≡ given (5 ∷ 6 ∷ 7 ∷ [])
-unfolding openSealed openRows decide outcomeBy not16 notSealed unaligned same notPadded orEmpty unpadded unpadFrom plaintextOf decrypted sealedRecord unbrokenTag tagFrom blocksOf firstBlocks padded ivPart cipherPart tagPart unbroken pass middletext written startMask encrypt xorBytes timesX jump fallen shiftLeft reduction
+unfolding openSealed openRows decide outcomeBy not16 notSealed unaligned same notPadded orEmpty unpadded unpadFrom plaintextOf decrypted sealedRecord unbrokenTag tagFrom blocksOf firstBlocks padded ivPart cipherPart tagPart unbroken pass middletext written startMask encrypt xorBytes timesX jump carry shiftLeft reduction
 opens = refl
 
 flipped : (openSealed toy (replicate 16 1) (take 47 sealedA ++ (bitXor (getD sealedA 47 0) 1 ∷ [])) 16) .answer ≡ refused 6
-unfolding openSealed openRows decide outcomeBy not16 notSealed unaligned same notPadded orEmpty unpadded unpadFrom plaintextOf decrypted sealedRecord unbrokenTag tagFrom blocksOf firstBlocks padded ivPart cipherPart tagPart unbroken pass middletext written startMask encrypt xorBytes timesX jump fallen shiftLeft reduction
+unfolding openSealed openRows decide outcomeBy not16 notSealed unaligned same notPadded orEmpty unpadded unpadFrom plaintextOf decrypted sealedRecord unbrokenTag tagFrom blocksOf firstBlocks padded ivPart cipherPart tagPart unbroken pass middletext written startMask encrypt xorBytes timesX jump carry shiftLeft reduction
 flipped = refl
 
 abbrev unpaddedA : List ℕ
@@ -251,5 +251,5 @@ unpaddedA =
     ++ unbrokenTag toy plaintext (replicate 16 1) (replicate 16 2) (replicate 16 255 ∷ [])
 
 not-padded : (openSealed toy (replicate 16 1) unpaddedA 16) .answer ≡ refused 7
-unfolding openSealed openRows decide outcomeBy not16 notSealed unaligned same notPadded orEmpty unpadded unpadFrom plaintextOf decrypted sealedRecord unbrokenTag tagFrom blocksOf firstBlocks padded ivPart cipherPart tagPart unbroken pass middletext written startMask encrypt xorBytes timesX jump fallen shiftLeft reduction
+unfolding openSealed openRows decide outcomeBy not16 notSealed unaligned same notPadded orEmpty unpadded unpadFrom plaintextOf decrypted sealedRecord unbrokenTag tagFrom blocksOf firstBlocks padded ivPart cipherPart tagPart unbroken pass middletext written startMask encrypt xorBytes timesX jump carry shiftLeft reduction
 not-padded = refl

@@ -11,7 +11,7 @@ use Rattle.blocks.specs.Bytes.{Bytes, Block}
 use Rattle.mode.specs.Mode.{Cipher, plaintext, ciphertext, Pass, RunRecord, blocksOf, padded, unbroken, unbrokenTag, recordOf, ivPart, cipherPart, tagPart, sealedRecord, UnbrokenCheck}
 use Rattle.mode.specs.Table.{refused, given, apart, notSealed, longestMessage}
 use Rattle.mode.specs.Calls.{outcomeBy, openSealed, Calls}
-use Rattle.mode.specs.Parallel.{Work, sealing, checking, sourceOf, ivOf, allBlocks, Setting, WellFormed, Run, Segment, recorded, recordIn, bytesIn, isRecorded, blocksIn, segment, Call, runAt, joinPair, joinMany, consecutive, recordsAt, MayStand, start, lent, runOutcome, answerOf, afterAll, EachCall}
+use Rattle.mode.specs.Parallel.{Work, sealing, checking, sourceOf, ivOf, allBlocks, Setting, WellFormed, Run, Segment, recorded, recordIn, bytesIn, isRecorded, blocksIn, segment, Call, runAt, joinPair, joinMany, consecutive, recordsAt, Allowed, start, roomOf, runOutcome, answerOf, afterAll, EachCall}
 
 -- ---- demand 2
 
@@ -68,8 +68,8 @@ module _ (c : Cipher) (m : Calls) where
   unfoldable pub AsSaid : Setting → List Segment → Call → Type 0
   AsSaid s xs (runAt i room) =
       runOutcome m s xs i room
-      ≡ outcomeBy (cond (leb (length (ciphertextOfSegment c s xs i)) (lent (s .work) room)) (given (recordOfSegments c s xs i 1)) (refused 5))
-      (ciphertextOfSegment c s xs i) (lent (s .work) room)
+      ≡ outcomeBy (cond (leb (length (ciphertextOfSegment c s xs i)) (roomOf (s .work) room)) (given (recordOfSegments c s xs i 1)) (refused 5))
+      (ciphertextOfSegment c s xs i) (roomOf (s .work) room)
   AsSaid s xs (joinPair i j) =
       (j ≡ suc i → answerOf m s xs (joinPair i j) ≡ given (recordOfSegments c s xs i 2))
       × (apart (recordsAt xs (i ∷ j ∷ [])) ≡ true → answerOf m s xs (joinPair i j) ≡ refused 8)
@@ -107,4 +107,4 @@ module _ (c : Cipher) (m : Calls) where
   -- DEMAND 3, of any six calls: for every setting and every list of calls that may stand, from the empty rack.
   abbrev pub Demand3 : Type 0
   Demand3 =
-      (s : Setting) → WellFormed s → (calls : List Call) → EachCall m s MayStand (start s) calls → Agrees s calls (afterAll m s (start s) calls)
+      (s : Setting) → WellFormed s → (calls : List Call) → EachCall m s Allowed (start s) calls → Agrees s calls (afterAll m s (start s) calls)

@@ -109,9 +109,9 @@ unfoldable pub runsOf : List Segment → List Run
 runsOf [] = []
 runsOf (x ∷ xs) = runsIn x ++ runsOf xs
 
-unfoldable pub bytesOf : List Segment → List ℕ
-bytesOf [] = []
-bytesOf (x ∷ xs) = bytesIn x ++ bytesOf xs
+unfoldable pub bytesOfSegments : List Segment → List ℕ
+bytesOfSegments [] = []
+bytesOfSegments (x ∷ xs) = bytesIn x ++ bytesOfSegments xs
 
 -- the blocks of consecutive segments
 unfoldable pub blocksIn : List Segment → List (List ℕ)
@@ -148,17 +148,17 @@ recordsAt xs is = map (λ i. recordIn (segment xs i)) is
 
 -- Which calls may stand in the list: a run whose place is empty; a join of filled places that are neighbours, in rack order, two, or
 -- one or more as a list; the empty list; any other choice of filled places where the table's condition for 8 holds. No other.
-unfoldable pub MayStand : List Segment → Call → Type 0
-MayStand xs (runAt i room) = (i < length xs) × (isRecorded (segment xs i) ≡ false)
-MayStand xs (joinPair i j) = AllRecorded xs (i ∷ j ∷ []) × ((j ≡ suc i) ⊎ (apart (recordsAt xs (i ∷ j ∷ [])) ≡ true))
-MayStand xs (joinMany is) =
+unfoldable pub Allowed : List Segment → Call → Type 0
+Allowed xs (runAt i room) = (i < length xs) × (isRecorded (segment xs i) ≡ false)
+Allowed xs (joinPair i j) = AllRecorded xs (i ∷ j ∷ []) × ((j ≡ suc i) ⊎ (apart (recordsAt xs (i ∷ j ∷ [])) ≡ true))
+Allowed xs (joinMany is) =
     AllRecorded xs is × (((i : ℕ) × (k : ℕ) × (is ≡ consecutive i (suc k))) ⊎ ((is ≡ []) ⊎ (apart (recordsAt xs is) ≡ true)))
 
 -- k segments from segment i give way to one, which has the joined record and all their runs and bytes; a refused call leaves them
 unfoldable pub mergeBy : Answer RunRecord → List Segment → ℕ → ℕ → List Segment
 mergeBy (refused number) xs i k = xs
 mergeBy (given r) xs i k =
-    take i xs ++ recorded (runsOf (take k (drop i xs))) r (bytesOf (take k (drop i xs))) ∷ drop k (drop i xs)
+    take i xs ++ recorded (runsOf (take k (drop i xs))) r (bytesOfSegments (take k (drop i xs))) ∷ drop k (drop i xs)
 
 -- a run puts its record in its place, and beside it the answer bytes of its output; a refused one leaves it empty
 unfoldable pub recordBy : Answer RunRecord → Outcome RunRecord → List Segment → ℕ → List Segment
@@ -182,9 +182,9 @@ unfoldable pub start : Setting → List Segment
 start s = empties (runsFrom (lastKind (s .work)) 0 (s .pieces))
 
 -- the output that a run is lent: checking takes none
-unfoldable pub lent : Work → ℕ → ℕ
-lent (sealing iv message) room = room
-lent (checking sealed) room = 0
+unfoldable pub roomOf : Work → ℕ → ℕ
+roomOf (sealing iv message) room = room
+roomOf (checking sealed) room = 0
 
 -- ---- what the calls do
 
