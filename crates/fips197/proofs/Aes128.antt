@@ -3,6 +3,7 @@
 use mathlib.Core.Path.{_≡_, sym, ap, _∙_}
 use mathlib.Core.List.{List}
 use Prim.Native.Nat.{ℕ, _<_}
+use native.Mathlib.Omega.{arith}
 use lib.Dec.{lit<, lit≤}
 use lib.ListN.{length}
 use Rattle.blocks.specs.Bytes.{Block, Blocks, firstBlocks}
@@ -49,6 +50,11 @@ encrypt-halves key s = R.halves-cipher 5 10 (keys key) (lit< tt) (eleven key) s
 pub decrypt-halves : (key s : List ℕ) → invFirstHalf key (invSecondHalf key s) ≡ decrypt key s
 unfolding invFirstHalf invSecondHalf decrypt
 decrypt-halves key s = R.halves-invCipher 5 10 (keys key) (lit< tt) (eleven key) s
+
+-- the first half ends after round 5
+pub first-after : (key s : List ℕ) → firstHalf key s ≡ C.afterRound (keys key) s 5
+unfolding firstHalf
+first-after key s = R.first-after 5 (keys key) s (omega (arith, eleven key))
 
 module _ (key : List ℕ) (hk : Block key) where
   pub blocks-keys : Blocks (keys key)

@@ -212,6 +212,11 @@ invRounds-from ks s (suc n) h =
     ap (λ (x : List ℕ). xorBytes x (roundKey ks 0)) (invRounds-snoc 1 (suc n) ks (invSubBytes (invShiftRows s)) (omega arith) h)
     ∙ invRounds-from ks (invMixColumns (xorBytes (invSubBytes (invShiftRows s)) (roundKey ks (suc n)))) n (omega arith)
 
+-- the first half is the state after its last round
+pub first-after : (h : ℕ) (ks : List (List ℕ)) (s : List ℕ) → h < length ks → firstHalf h ks s ≡ afterRound ks s h
+unfolding firstHalf
+first-after h ks s l = rounds-after ks s h l
+
 module _ (h nr : ℕ) (ks : List (List ℕ)) (hn : h < nr) (long : nr < length ks) where
   whole : slice 1 nr ks ≡ slice 1 (suc h) ks ++ slice (suc h) nr ks
   whole = slice-split 1 (suc h) nr ks (omega arith) hn (omega arith)

@@ -1,8 +1,10 @@
--- AES-128 is a lawful cipher: so what is shown of any lawful cipher holds of AES-128.
-use Rattle.fips197.proofs.Aes128.{block-first, block-second, block-invFirst, block-invSecond, first-undone, first-redone, second-undone, second-redone}
+-- AES-128 is a lawful cipher: so what is shown of any lawful cipher holds of AES-128. And it is FIPS 197's cipher.
+use Rattle.fips197.proofs.Aes128.{block-first, block-second, block-invFirst, block-invSecond, first-undone, first-redone, second-undone, second-redone, encrypt-halves, decrypt-halves, first-after}
+use Rattle.fips197.specs.Aes128 as Aes128
 use Rattle.fips197.proofs.Lengths.{length-first, length-second, length-invFirst, length-invSecond}
-use Rattle.mode.specs.Mode.{Lawful}
+use Rattle.mode.specs.Mode.{Lawful, encrypt}
 use Rattle.mode.specs.Aes.{aes}
+use Rattle.mode.specs.Demands.{IsAes128}
 
 pub aes-lawful : Lawful aes
 aes-lawful =
@@ -19,4 +21,14 @@ aes-lawful =
       firstHalfBack-undone = λ key b hk hb. first-redone key hk b hb;
       secondHalf-undone = λ key b hk hb. second-undone key hk b hb;
       secondHalfBack-undone = λ key b hk hb. second-redone key hk b hb;
+    }
+
+pub aes128 : IsAes128 aes
+unfolding encrypt Aes128.encrypt Aes128.decrypt Aes128.keys
+aes128 =
+    record {
+      encrypts = encrypt-halves;
+      halves = encrypt-halves;
+      decrypts = decrypt-halves;
+      middle = first-after;
     }

@@ -1,6 +1,6 @@
--- DEMAND 2, proved: (b) `demand2`, (c) `first-row`, (d) `checked-as-opened`; and the record that checking gives is the one that sealing gives.
+-- DEMAND 2 (a), (b) and (d), proved; and the pre-authenticator that checking gives is the one that sealing gives.
 use mathlib.Core.Path.{_≡_, refl, sym, ap, ap₂, subst, _∙_}
-use mathlib.Core.Logic.{_⊎_, inl, inr, _↔_}
+use mathlib.Core.Logic.{_⊎_, inl, inr}
 use mathlib.Core.List.{List, [], _∷_, _++_}
 use mathlib.Core.Option.{Option, some, none as no-message}
 use mathlib.Core.Bool.{Bool, true, false, cond, not, _||_}
@@ -15,66 +15,19 @@ use Rattle.blocks.specs.Gf128.{timesX, jump}
 use Rattle.blocks.proofs.Chunks.{bytes-take, bytes-drop}
 use Rattle.blocks.proofs.XorBytes.{bytes-xor, xorBytes-cancel}
 use Rattle.blocks.proofs.TimesX.{length-jump, block-timesX}
-use Rattle.mode.specs.Mode.{Cipher, Lawful, plaintext, ciphertext, RunRecord, zeroBlock, encrypt, startMask, middletext, written, pass, unbroken, tagFrom, unbrokenTag, blocksOf, padded, ivPart, cipherPart, tagPart, sealedRecord, UnbrokenCheck}
-use Rattle.mode.specs.Table.{Answer, refused, given, decide, unaligned, notSealed, tableOrder, inOrder, longestSealed}
-use Rattle.mode.specs.Calls.{unpadded, notPadded, orEmpty, decrypted, plaintextOf, openRows, openSealed, sealRows, sealRunRows, checkRunRows, joinTwoRows, joinListRows, closeRows, testRows, jumpRows, Kind, outcomeBy}
-use Rattle.mode.specs.Demands.{SealedFrom, Demand2, CheckedAsOpened}
+use Rattle.mode.specs.Mode.{Cipher, Lawful, plaintext, ciphertext, zeroBlock, encrypt, startMask, middletext, written, pass, unbroken, tagFrom, unbrokenTag, blocksOf, padded, ivPart, cipherPart, tagPart, sealedRecord, UnbrokenCheck}
+use Rattle.mode.specs.Table.{Answer, refused, given, decide, NoneHolds, unaligned, notSealed, longestMessage, longestSealed}
+use Rattle.mode.specs.Calls.{unpadded, notPadded, orEmpty, decrypted, plaintextOf, openRows, openSealed, seal, sealRows, outcomeBy}
+use Rattle.mode.specs.Demands.{Gives, SealedFrom, Demand2a, Demand2b, Demand2d}
+use Rattle.mode.proofs.Rows.{not-too-long}
+use Rattle.mode.proofs.Decisions.{given-rows, passed-rows, outcome-answer, outcome-gives, outcome-given-bytes}
+use Rattle.mode.proofs.SealedLength.{sealed-length}
 use Rattle.mode.proofs.Laws.{xor-long, pass-mask, preauthenticator-long}
 use Rattle.mode.proofs.Blocks.{length-padded, count-middle}
 use Rattle.mode.proofs.Runs.{is16}
 use Rattle.mode.proofs.Segments.{not-both}
 use Rattle.mode.proofs.Demand3.{same-true, same-self, cipher-length}
 use Rattle.mode.proofs.Bytes.{bytes-left, bytes-padded, AllBlocks, all-blocks-long, bytes-concat, length-concat, good-blocks, concat-blocks, blocks-concat, parts-of, parts-whole, unpad-sound, unpad-complete}
-
--- ---- the table
-
--- none of these rows holds
-abbrev pub Passed : List (ℕ × Bool) → Type 0
-Passed [] = Unit {0}
-Passed (row ∷ rows) = (row .1 ≡ false) × Passed rows
-
-pub given-rows : {A : Type 0} (rows : List (ℕ × Bool)) (a m : A) → decide rows a ≡ given m → Passed rows × (a ≡ m)
-unfolding decide
-given-rows [] a m e = (tt, (cc))
-given-rows (row ∷ rows) a m e = by (row .1) refl e (given-rows rows a m)
-  where
-    by : (t : Bool) → row .1 ≡ t → cond t (refused (row .0)) (decide rows a) ≡ given m → (decide rows a ≡ given m → Passed rows × (a ≡ m)) → Passed (row ∷ rows) × (a ≡ m)
-    by true p e rec = absurd (let z : _≡_ {A = ℕ} 0 1 = cc in omega arith)
-    by false p e rec = ((p, (rec e) .0), (rec e) .1)
-
-pub passed-rows : {A : Type 0} (rows : List (ℕ × Bool)) (a : A) → Passed rows → decide rows a ≡ given a
-unfolding decide
-passed-rows [] a h = refl
-passed-rows (row ∷ rows) a h = rw (h .0) (passed-rows rows a (h .1))
-
-refuses : {A : Type 0} (above below : List (ℕ × Bool)) (a : A) (n : ℕ) → Passed above → decide (above ++ (n, true) ∷ below) a ≡ refused n
-unfolding decide
-refuses [] below a n h = refl
-refuses (row ∷ above) below a n h = rw (h .0) (refuses above below a n (h .1))
-
--- a row that holds, with none that holds above it
-pub record Decides (rows : List (ℕ × Bool)) (n : ℕ) : Type 0 where
-  pub above : List (ℕ × Bool)
-  pub below : List (ℕ × Bool)
-  pub rows-are : rows ≡ above ++ (n, true) ∷ below
-  pub none-above : Passed above
-
-decides : {A : Type 0} (rows : List (ℕ × Bool)) (a : A) (n : ℕ) → decide rows a ≡ refused n → Decides rows n
-unfolding decide
-decides [] a n e = absurd (let z : _≡_ {A = ℕ} 0 1 = cc in omega arith)
-decides (row ∷ rows) a n e = by (row .1) refl e (decides rows a n)
-  where
-    by : (t : Bool) → row .1 ≡ t → cond t (refused (row .0)) (decide rows a) ≡ refused n → (decide rows a ≡ refused n → Decides rows n) → Decides (row ∷ rows) n
-    by true p e rec =
-        let m : row .0 ≡ n = cc in
-        record { above = []; below = rows; rows-are = (λ i. (m i, p i) ∷ rows); none-above = tt }
-    by false p e rec =
-        let d = rec e in
-        record { above = row ∷ d .above; below = d .below; rows-are = ap (λ (t : List (ℕ × Bool)). row ∷ t) (d .rows-are); none-above = (p, d .none-above) }
-
--- DEMAND 2 (c): each number is returned if and only if its row's condition holds and no higher row's does
-pub first-row : {A : Type 0} (rows : List (ℕ × Bool)) (a : A) (n : ℕ) → (decide rows a ≡ refused n) ↔ Decides rows n
-first-row rows a n = (decides rows a n, λ d. rw (d .rows-are) (refuses (d .above) (d .below) a n (d .none-above)))
 
 -- ---- blocks sealed and opened
 
@@ -235,11 +188,6 @@ module _ (c : Cipher) (laws : Lawful c) (key : List ℕ) (kb : Block key) where
 
 -- ---- lengths and answers
 
-pub outcome-answer : {A : Type 0} (a : Answer A) (bytes : List ℕ) (room : ℕ) → (outcomeBy a bytes room) .answer ≡ a
-unfolding outcomeBy
-outcome-answer (refused n) bytes room = refl
-outcome-answer (given m) bytes room = refl
-
 pub or-false : (p q : Bool) → (p || q) ≡ false → (p ≡ false) × (q ≡ false)
 or-false true q e = not-both (sym e)
 or-false false q e = (refl, e)
@@ -276,7 +224,7 @@ module _ (c : Cipher) (laws : Lawful c) (key : List ℕ) (kb : Block key) where
         record-is = whole;
       }
     where
-      rows : Passed (openRows c key sealed room) × (orEmpty (unpadded (plaintextOf c key sealed)) ≡ m)
+      rows : NoneHolds (openRows c key sealed room) × (orEmpty (unpadded (plaintextOf c key sealed)) ≡ m)
       rows = given-rows (openRows c key sealed room) (orEmpty (unpadded (plaintextOf c key sealed))) m (sym (outcome-answer (decide (openRows c key sealed room) (orEmpty (unpadded (plaintextOf c key sealed)))) _ room) ∙ e)
 
       lens : (48 ≤ length sealed) × (length sealed ≤ longestSealed) × (length sealed % 16 ≡ 0)
@@ -429,14 +377,35 @@ module _ (c : Cipher) (laws : Lawful c) (key : List ℕ) (kb : Block key) where
           (is16 key (kb .long), (fine, (le-ltb room (length (cipherPart r)) h, (ap not tag-same, (ap notPadded message-is, tt))))))
           ∙ ap (λ (o : Option (List ℕ)). given (orEmpty o)) message-is)
 
+-- DEMAND 2 (a)
+pub demand2a : (c : Cipher) → Lawful c → Demand2a c
+unfolding seal
+demand2a c laws =
+    record {
+      gives = λ key iv message r room e. outcome-given-bytes (sealRows c key iv message room) (sealedRecord c key iv message) r room e;
+      seals = λ key iv message room hk hi hm hr.
+          let s = sealedRecord c key iv message in
+          outcome-gives (decide (sealRows c key iv message room) s) s s room
+          (passed-rows (sealRows c key iv message room) s (is16 key hk, (is16 iv hi, (not-too-long message hm, (le-ltb room (length s) hr, tt)))));
+      long = λ key iv message hk hi. sealed-length c laws key hk iv hi message ∙ omega arith;
+    }
+
 -- DEMAND 2 (b)
-pub demand2 : (c : Cipher) → Lawful c → Demand2 c
-demand2 c laws key sealed m room kb sb h = (open-sound c laws key kb sealed m room sb, open-complete c laws key kb sealed m room h)
+pub demand2b : (c : Cipher) → Lawful c → Demand2b c
+demand2b c laws =
+    record {
+      only-sealed = λ key sealed m room kb sb e. (open-sound c laws key kb sealed m room sb e, whole key sealed m room e);
+      all-sealed = λ key sealed m room kb h f. whole key sealed m room (open-complete c laws key kb sealed m room h f);
+    }
+  where
+    whole : (key sealed m : List ℕ) (room : ℕ) → (openSealed c key sealed room) .answer ≡ given m → Gives (openSealed c key sealed room) m m room
+    whole key sealed m room e =
+        unfold openSealed in ((outcome-given-bytes (openRows c key sealed room) (orEmpty (unpadded (plaintextOf c key sealed))) m room e) .1)
 
 -- DEMAND 2 (d)
-pub checked-as-opened : (c : Cipher) → CheckedAsOpened c
+pub demand2d : (c : Cipher) → Demand2d c
 unfolding UnbrokenCheck
-checked-as-opened c key sealed kl ns = (to, from)
+demand2d c key sealed kl ns = (to, from)
   where
     tag : List ℕ
     tag = unbrokenTag c ciphertext key (ivPart sealed) (blocksOf (cipherPart sealed))
@@ -480,39 +449,3 @@ checked-as-opened c key sealed kl ns = (to, from)
 
     from : ((m : List ℕ) × ((openSealed c key sealed room) .answer ≡ given m)) ⊎ ((openSealed c key sealed room) .answer ≡ refused 7) → tag ≡ tagPart sealed
     from h = right-tag (same tag (tagPart sealed)) refl h
-
--- ---- the table's order, and zeros beside a refusal
-
--- DEMAND 2 (c), the order: in every call the rows stand as in the table
-pub record RowsInOrder (c : Cipher) : Type 0 where
-  pub seal-rows : (key iv message : List ℕ) (room : ℕ) → inOrder tableOrder (sealRows c key iv message room) ≡ true
-  pub open-rows : (key sealed : List ℕ) (room : ℕ) → inOrder tableOrder (openRows c key sealed room) ≡ true
-  pub seal-run-rows : (key iv : List ℕ) (first : ℕ) (kind : Kind) (bytes : List ℕ) (room : ℕ) → inOrder tableOrder (sealRunRows key iv first kind bytes room) ≡ true
-  pub check-run-rows : (key iv : List ℕ) (first : ℕ) (bytes : List ℕ) → inOrder tableOrder (checkRunRows key iv first bytes) ≡ true
-  pub join-two-rows : (l r : RunRecord) → inOrder tableOrder (joinTwoRows l r) ≡ true
-  pub join-list-rows : (rs : List RunRecord) → inOrder tableOrder (joinListRows rs) ≡ true
-  pub close-rows : (key iv : List ℕ) (r : RunRecord) → inOrder tableOrder (closeRows key iv r) ≡ true
-  pub test-rows : (key iv : List ℕ) (r : RunRecord) (tag : List ℕ) → inOrder tableOrder (testRows c key iv r tag) ≡ true
-  pub jump-rows : (mask : List ℕ) (distance room : ℕ) → inOrder tableOrder (jumpRows mask distance room) ≡ true
-
-pub rows-in-order : (c : Cipher) → RowsInOrder c
-unfolding inOrder openRows
-rows-in-order c =
-    record {
-      seal-rows = λ key iv message room. refl;
-      open-rows = λ key sealed room. refl;
-      seal-run-rows = λ key iv first kind bytes room. refl;
-      check-run-rows = λ key iv first bytes. refl;
-      join-two-rows = λ l r. refl;
-      join-list-rows = λ rs. refl;
-      close-rows = λ key iv r. refl;
-      test-rows = λ key iv r tag. refl;
-      jump-rows = λ mask distance room. refl;
-    }
-
--- DEMAND 1: beside a number the whole lent output is zeros
-pub refused-zeros : {A : Type 0} (a : Answer A) (bytes : List ℕ) (room n : ℕ) → (outcomeBy a bytes room) .answer ≡ refused n
-    → ((outcomeBy a bytes room) .output ≡ replicate room 0) × ((outcomeBy a bytes room) .reported ≡ 0)
-unfolding outcomeBy
-refused-zeros (refused m) bytes room n e = (refl, refl)
-refused-zeros (given r) bytes room n e = absurd (let z : _≡_ {A = ℕ} 0 1 = cc in omega arith)

@@ -1,5 +1,5 @@
 -- DEMAND 3, proved: `demand3`, at the end. An induction over the calls: what holds at every moment (`Inv`) holds of the empty rack, and each
--- call that may stand is answered as document 01 says and leaves a rack of which it holds.
+-- call that is allowed is answered as document 01 says and leaves a rack of which it holds.
 use mathlib.Core.Path.{_≡_, refl, sym, ap, ap₂, subst, _∙_}
 use mathlib.Core.Logic.{_⊎_, inl, inr, _↔_}
 use mathlib.Core.List.{List, [], _∷_, _++_, map, append-nil}
@@ -9,13 +9,14 @@ use native.Mathlib.Omega.{arith}
 use lib.ListN.{length, take, drop, set, replicate, length-append, length-drop}
 use lib.Seq.{split-at, set-split, take-append-seam, length-take-le}
 use lib.Dec.{eqb, leb}
-use borrow.Author.Tests.{eq-eqb, ne-eqb, eqb-true}
+use borrow.Author.Tests.{eq-eqb, ne-eqb, eqb-true, le-leb, lt-leb}
 use Rattle.blocks.specs.Bytes.{same, concat}
 use Rattle.mode.specs.Mode.{Cipher, Lawful, ciphertext, RunRecord, pass, unbroken, unbrokenTag, tagFrom, recordOf, startMask, blocksOf, padded, zeroBlock, cipherPart, tagPart, UnbrokenCheck}
 use Rattle.mode.specs.Table.{Answer, refused, given, decide, beyond, anyBeyond, apart, none, notWhole, limit}
 use Rattle.mode.specs.Calls.{Kind, middle, last, blocksOfRun, unalignedRun, Outcome, outcomeBy, joined, joinedOnto, joinedAll, joinTwo, joinList, closingTag, close, test, callsOf}
 use Rattle.mode.specs.Parallel.{Work, sealing, checking, sourceOf, ivOf, textOf, lastKind, allBlocks, Fits, Cut, Setting, WellFormed, Run, runsFrom, Segment, pending, recorded, blocksOfRuns, runsIn, recordIn, bytesIn, isRecorded, runsOf, bytesOfSegments, blocksIn, noSegment, segment, Call, runAt, joinPair, joinMany, consecutive, AllRecorded, recordsAt, Allowed, mergeBy, recordBy, headOr, firstRun, empties, start, roomOf, outcomeOfRun, runOutcome, answerOf, after, afterAll, EachCall}
-use Rattle.mode.specs.Demands.{whole, wholeTag, recordOfSegments, ciphertextOfSegment, AsSaid, TestedAs, Whole, Demand3}
+use Rattle.mode.specs.Demands.{whole, wholeTag, recordOfSegments, ciphertextOfSegment, ExpectedOfRun, ExpectedOfJoin, Expected, TestedAs, Whole, Demand3}
+use Rattle.mode.proofs.Decisions.{outcome-gives, outcome-refuses}
 use Rattle.mode.proofs.Laws.{AllLong, all-left, all-right, mask-there}
 use Rattle.mode.proofs.Blocks.{blocksOf-append, long-blocks, padded-append, count-middle, count-last, aligned, run-long}
 use Rattle.mode.proofs.Runs.{is16, within, iv-long, Suits, GoodRun, outputOf, recordFor, part, unbroken-output, run-outcome}
@@ -114,6 +115,14 @@ first-of : (i k : ℕ) → headOr 0 (consecutive i (suc k)) ≡ i
 unfolding headOr consecutive
 first-of i k = refl
 
+-- two places that are consecutive
+pair-consecutive : (i j first k : ℕ) → _≡_ {A = List ℕ} (i ∷ j ∷ []) (consecutive first (suc k)) → (i ≡ first) × (1 ≡ k) × (j ≡ suc i)
+unfolding consecutive
+pair-consecutive i j first zero e = absurd (let z : _≡_ {A = ℕ} 2 1 = ap length e in omega arith)
+pair-consecutive i j first (suc zero) e = ((cc), refl, (cc))
+pair-consecutive i j first (suc (suc k)) e =
+    absurd (let z : _≡_ {A = ℕ} 2 (suc (suc (suc k))) = ap length e ∙ ap (λ (n : ℕ). suc (suc n)) (length-consecutive (suc (suc first)) (suc k)) in omega arith)
+
 -- `same` tells equal lists
 pub same-true : (a b : List ℕ) → same a b ≡ true → a ≡ b
 unfolding same
@@ -185,9 +194,12 @@ module _ (c : Cipher) (laws : Lawful c) (s : Setting) (wf : WellFormed s) where
     blocks-one i h = ap blocksIn (one-there xs i h) ∙ blocksIn-one (segment xs i)
 
     -- a run
-    run-said : (i room : ℕ) → i < length xs → isRecorded (segment xs i) ≡ false → AsSaid c (callsOf c) s xs (runAt i room)
-    unfolding AsSaid runOutcome recordOfSegments firstRun runsIn
-    run-said i room h e =
+    run-is : (i room : ℕ) → i < length xs → isRecorded (segment xs i) ≡ false
+        → runOutcome (callsOf c) s xs i room
+        ≡ outcomeBy (cond (leb (length (ciphertextOfSegment c s xs i)) (roomOf w room)) (given (recordOfSegments c s xs i 1)) (refused 5))
+        (ciphertextOfSegment c s xs i) (roomOf w room)
+    unfolding runOutcome recordOfSegments firstRun runsIn
+    run-is i room h e =
         ap (λ (x : Segment). outcomeOfRun (callsOf c) key w (firstRun (runsIn x)) room) is
         ∙ run-outcome c laws key (wf .key-long) w (wf .fits) before r room good bound
         ∙ ap₂ (λ (o : List ℕ) (a : RunRecord). outcomeBy (cond (leb (length o) (roomOf w room)) (given a) (refused 5)) o (roomOf w room))
@@ -220,6 +232,19 @@ module _ (c : Cipher) (laws : Lawful c) (s : Setting) (wf : WellFormed s) where
               length-append (blocksIn (take i xs)) (blocksIn (take 1 (drop i xs)) ++ blocksIn (drop 1 (drop i xs))),
               length-append (blocksIn (take 1 (drop i xs))) (blocksIn (drop 1 (drop i xs))),
             )
+
+    run-expected : (i room : ℕ) → i < length xs → isRecorded (segment xs i) ≡ false → ExpectedOfRun c (callsOf c) s xs i room
+    run-expected i room h e =
+        record {
+          with-room = λ l. rw (run-is i room h e) (outcome-gives _ (recordOfSegments c s xs i 1) text (roomOf w room) (ap answer (le-leb (length text) (roomOf w room) l)));
+          too-short = λ l. rw (run-is i room h e) (outcome-refuses _ text (roomOf w room) 5 (ap answer (lt-leb (length text) (roomOf w room) l)));
+        }
+      where
+        text : List ℕ
+        text = ciphertextOfSegment c s xs i
+
+        answer : Bool → Answer RunRecord
+        answer t = cond t (given (recordOfSegments c s xs i 1)) (refused 5)
 
     put-inv : (i : ℕ) (r : RunRecord) (bytes : List ℕ) → i < length xs → r ≡ recordOfSegments c s xs i 1 → bytes ≡ ciphertextOfSegment c s xs i
         → Inv c s (set xs i (recorded (runsIn (segment xs i)) r bytes))
@@ -333,6 +358,17 @@ module _ (c : Cipher) (laws : Lawful c) (s : Setting) (wf : WellFormed s) where
     unfolding joinTwo decide
     pair-apart i j h e = rw (none-beyond c key w xs (i ∷ j ∷ []) (inv .sound) blocks-fit h, e)
 
+    pair-expected : (i j : ℕ) → AllRecorded xs (i ∷ j ∷ []) → ExpectedOfJoin c (callsOf c) s xs (i ∷ j ∷ []) (joinTwo (recordIn (segment xs i)) (recordIn (segment xs j)))
+    pair-expected i j h =
+        record {
+          neighbours = λ first k e.
+              let p = pair-consecutive i j first k e in
+              subst (λ (n : ℕ). joinTwo (recordIn (segment xs i)) (recordIn (segment xs j)) ≡ given (recordOfSegments c s xs n (suc k))) (p .0)
+              (subst (λ (n : ℕ). joinTwo (recordIn (segment xs i)) (recordIn (segment xs j)) ≡ given (recordOfSegments c s xs i (suc n))) (p .1) (pair-neighbours i j h (p .2)));
+          empty = λ e. absurd (let z : _≡_ {A = ℕ} 0 1 = cc in omega arith);
+          others = pair-apart i j h;
+        }
+
     -- a join of a list
     list-neighbours : (is : List ℕ) → AllRecorded xs is → (i k : ℕ) → is ≡ consecutive i (suc k) → joinList (recordsAt xs is) ≡ given (recordOfSegments c s xs i (suc k))
     list-neighbours is h i k e =
@@ -352,22 +388,23 @@ module _ (c : Cipher) (laws : Lawful c) (s : Setting) (wf : WellFormed s) where
     refused-inv a n i k e = subst (λ (a : Answer RunRecord). Inv c s (mergeBy a xs i k)) (sym e) (unfold mergeBy in inv)
 
     -- one call
-    step : (call : Call) → Allowed xs call → AsSaid c (callsOf c) s xs call × Inv c s (after (callsOf c) s xs call)
+    step : (call : Call) → Allowed xs call → Expected c (callsOf c) s xs call × Inv c s (after (callsOf c) s xs call)
     unfolding Allowed after answerOf
     step (runAt i room) m = (
-      run-said i room (m .0) (m .1),
-      run-inv i (roomOf w room) (m .0) (runOutcome (callsOf c) s xs i room) (leb (length (ciphertextOfSegment c s xs i)) (roomOf w room)) (unfold AsSaid in (run-said i room (m .0) (m .1))),
+      unfold Expected in run-expected i room (m .0) (m .1),
+      run-inv i (roomOf w room) (m .0) (runOutcome (callsOf c) s xs i room) (leb (length (ciphertextOfSegment c s xs i)) (roomOf w room)) (run-is i room (m .0) (m .1)),
     )
-    step (joinPair i j) m =
-        (unfold AsSaid in (pair-neighbours i j (m .0), pair-apart i j (m .0)), by (m .1))
+    step (joinPair i j) m = (unfold Expected answerOf in pair-expected i j (m .0), by (m .1))
       where
         by : (j ≡ suc i) ⊎ (apart (recordsAt xs (i ∷ j ∷ [])) ≡ true) → Inv c s (mergeBy (joinTwo (recordIn (segment xs i)) (recordIn (segment xs j))) xs i 2)
         by (inl e) =
             merge-inv i 1 (joinTwo (recordIn (segment xs i)) (recordIn (segment xs j)))
             (unfold consecutive in (subst (λ (j : ℕ). AllRecorded xs (i ∷ j ∷ [])) e (m .0))) (pair-neighbours i j (m .0) e)
         by (inr e) = refused-inv (joinTwo (recordIn (segment xs i)) (recordIn (segment xs j))) 8 i 2 (pair-apart i j (m .0) e)
-    step (joinMany is) m =
-        (unfold AsSaid in (list-neighbours is (m .0), list-empty is, list-apart is (m .0)), by (m .1))
+    step (joinMany is) m = (
+      unfold Expected answerOf in (record { neighbours = list-neighbours is (m .0); empty = list-empty is; others = list-apart is (m .0) }),
+      by (m .1),
+    )
       where
         many : (i k : ℕ) → is ≡ consecutive i (suc k) → Inv c s (mergeBy (joinList (recordsAt xs is)) xs (headOr 0 is) (length is))
         many i k e =
@@ -384,7 +421,7 @@ module _ (c : Cipher) (laws : Lawful c) (s : Setting) (wf : WellFormed s) where
 
   -- any list of calls
   steps : (xs : List Segment) (calls : List Call) → Inv c s xs → EachCall (callsOf c) s Allowed xs calls
-      → EachCall (callsOf c) s (AsSaid c (callsOf c) s) xs calls × Inv c s (afterAll (callsOf c) s xs calls)
+      → EachCall (callsOf c) s (Expected c (callsOf c) s) xs calls × Inv c s (afterAll (callsOf c) s xs calls)
   unfolding EachCall afterAll
   steps xs [] inv m = (tt, inv)
   steps xs (call ∷ calls) inv m =
@@ -482,5 +519,5 @@ demand3 c laws s wf calls may =
       single = λ rs r bytes e. single-whole c laws s wf rs r bytes (subst (Inv c s) e (all .1));
     }
   where
-    all : EachCall (callsOf c) s (AsSaid c (callsOf c) s) (start s) calls × Inv c s (afterAll (callsOf c) s (start s) calls)
+    all : EachCall (callsOf c) s (Expected c (callsOf c) s) (start s) calls × Inv c s (afterAll (callsOf c) s (start s) calls)
     all = steps c laws s wf (start s) calls (start-inv c laws s wf) may

@@ -2,6 +2,7 @@ pub mod Aes
 pub mod Rows
 pub mod Answers
 pub mod Passed
+pub mod Decisions
 pub mod Join
 pub mod Laws
 pub mod Blocks
@@ -14,4 +15,5 @@ pub mod Demand2
 pub mod Records
 pub mod NoDifference
 pub mod Demands
+pub mod Toy
 pub mod Witness

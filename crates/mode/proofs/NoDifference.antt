@@ -6,22 +6,13 @@ use Prim.Native.Nat.{ℕ}
 use Rattle.mode.specs.Mode.{Cipher, Lawful, RunRecord, plaintext, blocksOf, padded, unbrokenTag, sealedRecord}
 use Rattle.mode.specs.Table.{given}
 use Rattle.mode.specs.Calls.{callsOf, close, blocksOfRun}
-use Rattle.mode.specs.Parallel.{Work, sealing, ivOf, sourceOf, textOf, lastKind, allBlocks, WellFormed, Run, recorded, Call, Allowed, start, afterAll, EachCall}
-use Rattle.mode.specs.Demands.{Whole, whole, wholeTag}
+use Rattle.mode.specs.Parallel.{Work, sealing, ivOf, sourceOf, textOf, lastKind, allBlocks}
+use Rattle.mode.specs.Demands.{Whole, whole, wholeTag, Done}
 use Rattle.mode.proofs.Demand3.{demand3}
-
--- a list of calls that may stand, over some cut, and that leaves a single filled place
-pub record Done (c : Cipher) (key : List ℕ) (work : Work) (r : RunRecord) (bytes : List ℕ) : Type 0 where
-  pub pieces : List (List ℕ)
-  pub formed : WellFormed (record { key = key; work = work; pieces = pieces })
-  pub calls : List Call
-  pub may : EachCall (callsOf c) (record { key = key; work = work; pieces = pieces }) Allowed (start (record { key = key; work = work; pieces = pieces })) calls
-  pub runs : List Run
-  pub one-left : afterAll (callsOf c) (record { key = key; work = work; pieces = pieces }) (start (record { key = key; work = work; pieces = pieces })) calls ≡ recorded runs r bytes ∷ []
 
 module _ (c : Cipher) (laws : Lawful c) (key : List ℕ) where
   all-of : (work : Work) (r : RunRecord) (bytes : List ℕ) (d : Done c key work r bytes) → Whole c (callsOf c) (record { key = key; work = work; pieces = d .pieces }) r bytes
-  all-of work r bytes d = (demand3 c laws (record { key = key; work = work; pieces = d .pieces }) (d .formed) (d .calls) (d .may)) .single (d .runs) r bytes (d .one-left)
+  all-of work r bytes d = (demand3 c laws (record { key = key; work = work; pieces = d .pieces }) (d .formed) (d .calls) (d .allowed)) .single (d .runs) r bytes (d .one-left)
 
   pub no-difference : (work : Work) (r q : RunRecord) (bytes text : List ℕ) → Done c key work r bytes → Done c key work q text
       → (bytes ≡ text) × (close c key (ivOf work) r ≡ close c key (ivOf work) q)

@@ -15,13 +15,15 @@ use Rattle.blocks.specs.Gf128.{jump}
 use Rattle.blocks.proofs.XorBytes.{xorBytes-assoc, xorBytes-zeros}
 use Rattle.blocks.proofs.TimesX.{jump-xor, jump-add, length-jump, block-jump}
 use Rattle.mode.specs.Mode.{Cipher, Lawful, plaintext, ciphertext, RunRecord, zeroBlock, startMask, blocksOf, padded}
-use Rattle.mode.specs.Table.{Answer, refused, given, decide, not16, unaligned, beyond, anyBeyond, apart, limit, none}
+use Rattle.mode.specs.Table.{Answer, refused, given, decide, NoneHolds, not16, unaligned, beyond, anyBeyond, apart, limit, none}
 use Rattle.mode.specs.Calls.{unalignedRun, joined, joinedOnto, joinedAll, joinList, Kind, middle, last, blocksOfRun, outcomeBy, passFrom, runRecord, sealRun, checkRun}
 use Rattle.mode.proofs.Laws.{same-record}
 use Rattle.mode.proofs.Blocks.{length-padded, aligned}
 use Rattle.mode.proofs.Runs.{is16}
 use Rattle.mode.proofs.Bytes.{AllBlocks, good-blocks, bytes-padded, blocks-concat, length-concat}
-use Rattle.mode.proofs.Demand2.{Passed, given-rows, passed-rows, sealedBlocks, same-preauthenticator, sealed-good, output-is, length-sealed, start-block, or-false}
+use Rattle.mode.specs.Demands.{CheckedAsSealed, ListWithin}
+use Rattle.mode.proofs.Decisions.{given-rows, passed-rows}
+use Rattle.mode.proofs.Demand2.{sealedBlocks, same-preauthenticator, sealed-good, output-is, length-sealed, start-block, or-false}
 
 -- joining is independent of grouping
 pub joined-assoc : (a b c : RunRecord) → length (a .preauthenticator) ≡ 16 → length (b .preauthenticator) ≡ 16 → joined (joined a b) c ≡ joined a (joined b c)
@@ -58,7 +60,7 @@ onto-within l (r ∷ rs) h b a =
         let n : l .first + (l .count + r .count) ≡ r .first + r .count = omega arith in
         rw n a
 
-pub list-within : (rs : List RunRecord) (r : RunRecord) → joinList rs ≡ given r → r .first + r .count ≤ limit
+pub list-within : ListWithin
 unfolding joinList
 list-within [] r e = absurd (let z = (given-rows ((4, anyBeyond []) ∷ (8, apart []) ∷ (9, none []) ∷ []) (joinedAll []) r e) .0 .1 .1 .0 in bad (unfold none in z))
   where
@@ -84,9 +86,7 @@ by-answer (refused n) out room r e = absurd (let z : _≡_ {A = ℕ} 0 1 = cc in
 by-answer (given q) out room r e = (e, take-append-seam out (replicate (room - length out) 0))
 
 -- checking a run's ciphertext gives the record that sealing it gave
-pub checked-as-sealed : (c : Cipher) → Lawful c → (key iv : List ℕ) → Block key → Block iv → (first : ℕ) (kind : Kind) (bytes : List ℕ) (room : ℕ) → Bytes bytes
-    → (r : RunRecord) → (sealRun c key iv first kind bytes room) .answer ≡ given r
-    → checkRun c key iv first (take ((sealRun c key iv first kind bytes room) .reported) ((sealRun c key iv first kind bytes room) .output)) ≡ given r
+pub checked-as-sealed : (c : Cipher) → Lawful c → CheckedAsSealed c
 unfolding sealRun
 checked-as-sealed c laws key iv kb ib first kind bytes room hb r e =
     ap (checkRun c key iv first) (a .1) ∙ passes
@@ -106,7 +106,7 @@ checked-as-sealed c laws key iv kb ib first kind bytes room hb r e =
         × (take ((outcomeBy (decide rows (runRecord c plaintext key iv first bs)) text room) .reported) ((outcomeBy (decide rows (runRecord c plaintext key iv first bs)) text room) .output) ≡ text)
     a = by-answer (decide rows (runRecord c plaintext key iv first bs)) text room r e
 
-    g : Passed rows × (runRecord c plaintext key iv first bs ≡ r)
+    g : NoneHolds rows × (runRecord c plaintext key iv first bs ≡ r)
     g = given-rows rows (runRecord c plaintext key iv first bs) r (a .0)
 
     good : AllBlocks (blocksOfRun kind bytes)

@@ -1,45 +1,150 @@
--- THE DEMANDS, as types. A reader who believes Mode, Calls and Parallel reads this page. `m` is any set of calls; proofs/Demands.antt has the
--- proofs for ours, `callsOf c`, and proofs/Witness.antt has wrong ones of which demand 3 does not hold.
+-- THE DEMANDS, as types, on one page. A reader who believes Mode, Table, Calls and Parallel reads this one. `c` is any cipher in two halves,
+-- and `m` any set of calls. proofs/Demands.antt has the proof of each for AES-128 and our calls; proofs/Refuted.antt has wrong calls, of
+-- which demand 3 does not hold.
+-- All is said of the outcome functions of Calls: the contract of each call says that its answer and its whole lent output are what its
+-- outcome function gives. What lay in the output before is no argument of an outcome function, so it shows in nothing.
 use mathlib.Core.Path.{_≡_}
 use mathlib.Core.Logic.{_⊎_, _↔_}
-use mathlib.Core.List.{List, [], _∷_}
-use mathlib.Core.Bool.{true, false, cond}
-use Prim.Native.Nat.{ℕ, suc, _*_, _≤_}
+use mathlib.Core.List.{List, [], _∷_, _++_}
+use mathlib.Core.Bool.{Bool, true, false}
+use Prim.Native.Nat.{ℕ, suc, _+_, _*_, _-_, _/_, _≤_, _<_}
 use lib.ListN.{length, take, drop}
-use lib.Dec.{leb}
-use Rattle.blocks.specs.Bytes.{Bytes, Block}
-use Rattle.mode.specs.Mode.{Cipher, plaintext, ciphertext, Pass, RunRecord, blocksOf, padded, unbroken, unbrokenTag, recordOf, ivPart, cipherPart, tagPart, sealedRecord, UnbrokenCheck}
-use Rattle.mode.specs.Table.{refused, given, apart, notSealed, longestMessage}
-use Rattle.mode.specs.Calls.{outcomeBy, openSealed, Calls}
+use Rattle.blocks.specs.Bytes.{Bytes, Block, zeros, xorBytes}
+use Rattle.blocks.specs.Gf128.{jump}
+use Rattle.fips197.specs.KeyExpansion.{roundKeys}
+use Rattle.fips197.specs.Cipher.{cipher, invCipher, afterRound}
+use Rattle.mode.specs.Mode.{Cipher, Source, plaintext, ciphertext, Pass, RunRecord, blocksOf, padded, zeroBlock, startMask, encrypt, pass, tagFrom, unbroken, unbrokenTag, recordOf, ivPart, cipherPart, tagPart, sealedRecord, UnbrokenCheck}
+use Rattle.mode.specs.Table.{Answer, refused, given, tableOrder, inOrder, NoneHolds, Decides, apart, notSealed, limit, longestMessage}
+use Rattle.mode.specs.Calls.{Outcome, Kind, blocksOfRun, seal, sealRows, openSealed, openRows, unpadded, orEmpty, plaintextOf, sealRun, sealRunRows, checkRun, checkRunRows, joinTwo, joinTwoRows, joinList, joinListRows, joinedAll, close, closeRows, test, testRows, jumpMask, jumpRows, Calls, callsOf}
 use Rattle.mode.specs.Parallel.{Work, sealing, checking, sourceOf, ivOf, allBlocks, Setting, WellFormed, Run, Segment, recorded, recordIn, bytesIn, isRecorded, blocksIn, segment, Call, runAt, joinPair, joinMany, consecutive, recordsAt, Allowed, start, roomOf, runOutcome, answerOf, afterAll, EachCall}
 
--- ---- demand 2
+-- ---- THE CIPHER is FIPS 197's AES-128: keys of 4 words, 10 rounds
+
+pub record IsAes128 (c : Cipher) : Type 0 where
+  -- steps 1 and 3 encrypt by FIPS 197's Cipher; in step 2 the halves, one after the other, are that Cipher
+  pub encrypts : (key block : List ℕ) → encrypt c key block ≡ cipher 10 (roundKeys 4 10 key) block
+  pub halves : (key block : List ℕ) → c .secondHalf key (c .firstHalf key block) ≡ cipher 10 (roundKeys 4 10 key) block
+  -- the halves backwards, one after the other, are InvCipher
+  pub decrypts : (key block : List ℕ) → c .firstHalfBack key (c .secondHalfBack key block) ≡ invCipher 10 (roundKeys 4 10 key) block
+  -- the middletext is the state after round 5
+  pub middle : (key block : List ℕ) → c .firstHalf key block ≡ afterRound (roundKeys 4 10 key) block 5
+
+-- ---- what a call that writes comes to: every field of its outcome
+
+-- it gives `a`: the answer bytes, as many as reported, and zeros beyond them
+pub record Gives {A : Type 0} (o : Outcome A) (a : A) (bytes : List ℕ) (room : ℕ) : Type 0 where
+  pub answers : o .answer ≡ given a
+  pub reports : o .reported ≡ length bytes
+  pub writes : o .output ≡ bytes ++ zeros (room - length bytes)
+
+-- it refuses: no answer bytes are reported, and the output is zero from end to end
+pub record Refuses {A : Type 0} (o : Outcome A) (n room : ℕ) : Type 0 where
+  pub answers : o .answer ≡ refused n
+  pub reports : o .reported ≡ 0
+  pub writes : o .output ≡ zeros room
+
+-- ---- DEMAND 1. Whatever is handed in, a call gives its answer or one of the nine numbers; with a number, a lent output is zero.
+
+abbrev pub InTable : ℕ → Type 0
+InTable n = (1 ≤ n) × (n ≤ 9)
+
+abbrev pub Answered : {A : Type 0} → Answer A → Type 0
+Answered {A} a = ((x : A) × (a ≡ given x)) ⊎ ((n : ℕ) × (InTable n × (a ≡ refused n)))
+
+abbrev pub AnsweredInto : {A : Type 0} → Outcome A → ℕ → Type 0
+AnsweredInto {A} o room = ((x : A) × (bytes : List ℕ) × Gives o x bytes room) ⊎ ((n : ℕ) × (InTable n × Refuses o n room))
+
+pub record Demand1 (c : Cipher) : Type 0 where
+  pub of-seal : (key iv message : List ℕ) (room : ℕ) → AnsweredInto (seal c key iv message room) room
+  pub of-open : (key sealed : List ℕ) (room : ℕ) → AnsweredInto (openSealed c key sealed room) room
+  pub of-seal-run : (key iv : List ℕ) (first : ℕ) (kind : Kind) (bytes : List ℕ) (room : ℕ) → AnsweredInto (sealRun c key iv first kind bytes room) room
+  pub of-check-run : (key iv : List ℕ) (first : ℕ) (bytes : List ℕ) → Answered (checkRun c key iv first bytes)
+  pub of-join : (l r : RunRecord) → Answered (joinTwo l r)
+  pub of-join-list : (rs : List RunRecord) → Answered (joinList rs)
+  pub of-close : (key iv : List ℕ) (r : RunRecord) → Answered (close c key iv r)
+  pub of-test : (key iv : List ℕ) (r : RunRecord) (tag : List ℕ) → Answered (test c key iv r tag)
+  pub of-jump : (mask : List ℕ) (distance room : ℕ) → AnsweredInto (jumpMask mask distance room) room
+
+-- ---- DEMAND 2 (a). Sealing gives the record of the published mode, 16 j + 32 bytes for j blocks, and zeros beyond it; a message within the
+-- limit, with a key and an IV of 16 bytes and with room, is sealed.
+
+pub record Demand2a (c : Cipher) : Type 0 where
+  pub gives : (key iv message r : List ℕ) (room : ℕ) → (seal c key iv message room) .answer ≡ given r
+      → (r ≡ sealedRecord c key iv message) × Gives (seal c key iv message room) r r room
+  pub seals : (key iv message : List ℕ) (room : ℕ) → length key ≡ 16 → length iv ≡ 16 → length message ≤ longestMessage
+      → length (sealedRecord c key iv message) ≤ room → Gives (seal c key iv message room) (sealedRecord c key iv message) (sealedRecord c key iv message) room
+  pub long : (key iv message : List ℕ) → length key ≡ 16 → length iv ≡ 16
+      → length (sealedRecord c key iv message) ≡ 16 * (length message / 16 + 1) + 32
+
+-- ---- DEMAND 2 (b). Opening gives the message m, its length, and m followed by zeros, exactly where m was sealed to that very record. It gives
+-- no other message, whatever was lent; and with as much output as there is ciphertext it gives m.
+
+-- some IV of 16 bytes and the message m, within the limit, seal to exactly this record
+pub record SealedFrom (c : Cipher) (key sealed m : List ℕ) : Type 0 where
+  pub iv : List ℕ
+  pub iv-block : Block iv
+  pub m-bytes : Bytes m
+  pub m-fits : length m ≤ longestMessage
+  pub record-is : sealedRecord c key iv m ≡ sealed
+
+pub record Demand2b (c : Cipher) : Type 0 where
+  pub only-sealed : (key sealed m : List ℕ) (room : ℕ) → Block key → Bytes sealed → (openSealed c key sealed room) .answer ≡ given m
+      → SealedFrom c key sealed m × Gives (openSealed c key sealed room) m m room
+  pub all-sealed : (key sealed m : List ℕ) (room : ℕ) → Block key → length (cipherPart sealed) ≤ room → SealedFrom c key sealed m
+      → Gives (openSealed c key sealed room) m m room
+
+-- ---- DEMAND 2 (c). The refusals are the table's: the rows of each call stand in its order, a number is returned exactly where its row holds
+-- and none above it does, and the answer is given exactly where none holds. Beside each call's rows stands what it then gives, by the formulas.
+
+pub record Decided {A : Type 0} (rows : List (ℕ × Bool)) (answer : Answer A) (a : A) : Type 0 where
+  pub in-order : inOrder tableOrder rows ≡ true
+  pub refuses : (n : ℕ) → (answer ≡ refused n) ↔ Decides rows n
+  pub gives : (x : A) → (answer ≡ given x) ↔ (NoneHolds rows × (a ≡ x))
+
+-- the same of a call that writes
+pub record DecidedInto {A : Type 0} (rows : List (ℕ × Bool)) (o : Outcome A) (a : A) (bytes : List ℕ) (room : ℕ) : Type 0 where
+  pub decided : Decided rows (o .answer) a
+  pub none-holds : NoneHolds rows → Gives o a bytes room
+  pub one-holds : (n : ℕ) → Decides rows n → Refuses o n room
 
 module _ (c : Cipher) where
-  -- some IV of 16 bytes and the message m, within the limit, seal to exactly this record
-  pub record SealedFrom (key sealed m : List ℕ) : Type 0 where
-    pub iv : List ℕ
-    pub iv-block : Block iv
-    pub m-bytes : Bytes m
-    pub m-fits : length m ≤ longestMessage
-    pub record-is : sealedRecord c key iv m ≡ sealed
+  -- step 2 over a run that starts at block `first`, whose mask is the start mask jumped by `first`
+  abbrev pub stepTwo : Source → List ℕ → List ℕ → ℕ → List (List ℕ) → Pass
+  stepTwo s key iv first blocks = pass c s key blocks (jump first (startMask c key iv)) zeroBlock
 
-  -- DEMAND 2 (b): lent at least as much output as there is ciphertext, opening answers the message m if and only if m was sealed to exactly
-  -- that record
-  abbrev pub Demand2 : Type 0
-  Demand2 =
-      (key sealed m : List ℕ) (room : ℕ) → Block key → Bytes sealed → length (cipherPart sealed) ≤ room
-      → ((openSealed c key sealed room) .answer ≡ given m) ↔ SealedFrom key sealed m
+  abbrev pub stepTwoRecord : Source → List ℕ → List ℕ → ℕ → List (List ℕ) → RunRecord
+  stepTwoRecord s key iv first blocks =
+      record { first = first; count = length blocks; preauthenticator = (stepTwo s key iv first blocks) .preauthenticator }
 
-  -- DEMAND 2 (d): the unbroken check passes a record exactly when opening, lent as much output as there is ciphertext, gives a message or 7
-  abbrev pub CheckedAsOpened : Type 0
-  CheckedAsOpened =
-      (key sealed : List ℕ) → length key ≡ 16 → notSealed sealed ≡ false
-      → UnbrokenCheck c key sealed
-      ↔ (((m : List ℕ) × ((openSealed c key sealed (length (cipherPart sealed))) .answer ≡ given m))
-      ⊎ ((openSealed c key sealed (length (cipherPart sealed))) .answer ≡ refused 7))
+  pub record Demand2c : Type 0 where
+    pub of-seal : (key iv message : List ℕ) (room : ℕ)
+        → DecidedInto (sealRows c key iv message room) (seal c key iv message room) (sealedRecord c key iv message) (sealedRecord c key iv message) room
+    pub of-open : (key sealed : List ℕ) (room : ℕ)
+        → DecidedInto (openRows c key sealed room) (openSealed c key sealed room) (orEmpty (unpadded (plaintextOf c key sealed))) (orEmpty (unpadded (plaintextOf c key sealed))) room
+    pub of-seal-run : (key iv : List ℕ) (first : ℕ) (kind : Kind) (bytes : List ℕ) (room : ℕ)
+        → DecidedInto (sealRunRows key iv first kind bytes room) (sealRun c key iv first kind bytes room)
+        (stepTwoRecord plaintext key iv first (blocksOfRun kind bytes)) ((stepTwo plaintext key iv first (blocksOfRun kind bytes)) .output) room
+    pub of-check-run : (key iv : List ℕ) (first : ℕ) (bytes : List ℕ)
+        → Decided (checkRunRows key iv first bytes) (checkRun c key iv first bytes) (stepTwoRecord ciphertext key iv first (blocksOf bytes))
+    pub of-join : (l r : RunRecord)
+        → Decided (joinTwoRows l r) (joinTwo l r)
+        (record { first = l .first; count = l .count + r .count; preauthenticator = xorBytes (jump (r .count) (l .preauthenticator)) (r .preauthenticator) })
+    pub of-join-list : (rs : List RunRecord) → Decided (joinListRows rs) (joinList rs) (joinedAll rs)
+    pub of-close : (key iv : List ℕ) (r : RunRecord)
+        → Decided (closeRows key iv r) (close c key iv r) (tagFrom c key (r .preauthenticator) (jump (r .count) (startMask c key iv)))
+    pub of-test : (key iv : List ℕ) (r : RunRecord) (tag : List ℕ) → Decided (testRows c key iv r tag) (test c key iv r tag) tt
+    pub of-jump : (mask : List ℕ) (distance room : ℕ) → DecidedInto (jumpRows mask distance room) (jumpMask mask distance room) (jump distance mask) (jump distance mask) room
 
--- ---- demand 3: what the formulas give
+-- ---- DEMAND 2 (d). The unbroken check passes a record exactly where opening, lent as much output as there is ciphertext, gives a message or 7.
+
+abbrev pub Demand2d : Cipher → Type 0
+Demand2d c =
+    (key sealed : List ℕ) → length key ≡ 16 → notSealed sealed ≡ false
+    → UnbrokenCheck c key sealed
+    ↔ (((m : List ℕ) × ((openSealed c key sealed (length (cipherPart sealed))) .answer ≡ given m))
+    ⊎ ((openSealed c key sealed (length (cipherPart sealed))) .answer ≡ refused 7))
+
+-- ---- DEMAND 3. First what the formulas give.
 
 module _ (c : Cipher) (s : Setting) where
   -- the pass over all blocks, nothing cut
@@ -59,24 +164,25 @@ module _ (c : Cipher) (s : Setting) where
   ciphertextOfSegment xs i =
       take (16 * length (blocksIn (take 1 (drop i xs)))) (drop (16 * length (blocksIn (take i xs))) (whole .output))
 
--- ---- demand 3
-
 module _ (c : Cipher) (m : Calls) where
-  -- What document 01 says that each call is answered. A run with room gives the record of its blocks and writes their ciphertext, then
-  -- zeros; with too little room it gets 5, and all zeros. A join of neighbours gives the record of all their blocks; the empty list gets 9;
-  -- any other join gets 8.
-  unfoldable pub AsSaid : Setting → List Segment → Call → Type 0
-  AsSaid s xs (runAt i room) =
-      runOutcome m s xs i room
-      ≡ outcomeBy (cond (leb (length (ciphertextOfSegment c s xs i)) (roomOf (s .work) room)) (given (recordOfSegments c s xs i 1)) (refused 5))
-      (ciphertextOfSegment c s xs i) (roomOf (s .work) room)
-  AsSaid s xs (joinPair i j) =
-      (j ≡ suc i → answerOf m s xs (joinPair i j) ≡ given (recordOfSegments c s xs i 2))
-      × (apart (recordsAt xs (i ∷ j ∷ [])) ≡ true → answerOf m s xs (joinPair i j) ≡ refused 8)
-  AsSaid s xs (joinMany is) =
-      ((i k : ℕ) → is ≡ consecutive i (suc k) → answerOf m s xs (joinMany is) ≡ given (recordOfSegments c s xs i (suc k)))
-      × (is ≡ [] → answerOf m s xs (joinMany is) ≡ refused 9)
-      × (apart (recordsAt xs is) ≡ true → answerOf m s xs (joinMany is) ≡ refused 8)
+  -- What a run is expected to give: with room, the record of its blocks, and their ciphertext, then zeros; with too little room 5, and
+  -- all zeros.
+  pub record ExpectedOfRun (s : Setting) (xs : List Segment) (i room : ℕ) : Type 0 where
+    pub with-room : length (ciphertextOfSegment c s xs i) ≤ roomOf (s .work) room
+        → Gives (runOutcome m s xs i room) (recordOfSegments c s xs i 1) (ciphertextOfSegment c s xs i) (roomOf (s .work) room)
+    pub too-short : roomOf (s .work) room < length (ciphertextOfSegment c s xs i) → Refuses (runOutcome m s xs i room) 5 (roomOf (s .work) room)
+
+  -- What a join of the records at these places is expected to give: neighbours the record of all their blocks, the empty list 9, any other
+  -- choice 8.
+  pub record ExpectedOfJoin (s : Setting) (xs : List Segment) (is : List ℕ) (answer : Answer RunRecord) : Type 0 where
+    pub neighbours : (i k : ℕ) → is ≡ consecutive i (suc k) → answer ≡ given (recordOfSegments c s xs i (suc k))
+    pub empty : is ≡ [] → answer ≡ refused 9
+    pub others : apart (recordsAt xs is) ≡ true → answer ≡ refused 8
+
+  unfoldable pub Expected : Setting → List Segment → Call → Type 0
+  Expected s xs (runAt i room) = ExpectedOfRun s xs i room
+  Expected s xs (joinPair i j) = ExpectedOfJoin s xs (i ∷ j ∷ []) (answerOf m s xs (joinPair i j))
+  Expected s xs (joinMany is) = ExpectedOfJoin s xs is (answerOf m s xs (joinMany is))
 
   -- Testing the single record: a tag of 16 bytes passes exactly when it is the unbroken one; of a sealed record that is checked, the
   -- tag passes exactly when the unbroken check passes it.
@@ -94,7 +200,7 @@ module _ (c : Cipher) (m : Calls) where
   -- Demand 3's conclusion, of a setting and a list of calls, which lead from the empty rack to the rack `xs`.
   pub record Agrees (s : Setting) (calls : List Call) (xs : List Segment) : Type 0 where
     -- every call was answered as document 01 says
-    pub answers : EachCall m s (AsSaid s) (start s) calls
+    pub answers : EachCall m s (Expected s) (start s) calls
     -- the places' blocks, in rack order, are all blocks
     pub blocks-are : blocksIn xs ≡ allBlocks (s .work)
     -- every record in the rack is the formulas' record of its place's blocks
@@ -104,7 +210,42 @@ module _ (c : Cipher) (m : Calls) where
     -- once the rack is a single filled place: the ciphertexts in order, the closing tag and the test are the unbroken ones
     pub single : (rs : List Run) (r : RunRecord) (bytes : List ℕ) → xs ≡ recorded rs r bytes ∷ [] → Whole s r bytes
 
-  -- DEMAND 3, of any six calls: for every setting and every list of calls that may stand, from the empty rack.
+  -- DEMAND 3, of any six calls: for every key, message or sealed record, and cut (s), and every list of calls that is allowed, from the empty
+  -- rack.
   abbrev pub Demand3 : Type 0
   Demand3 =
       (s : Setting) → WellFormed s → (calls : List Call) → EachCall m s Allowed (start s) calls → Agrees s calls (afterAll m s (start s) calls)
+
+-- ---- beside demand 3
+
+-- a list of calls that is allowed, over some cut, and that leaves a single filled place
+pub record Done (c : Cipher) (key : List ℕ) (work : Work) (r : RunRecord) (bytes : List ℕ) : Type 0 where
+  pub pieces : List (List ℕ)
+  pub formed : WellFormed (record { key = key; work = work; pieces = pieces })
+  pub calls : List Call
+  pub allowed : EachCall (callsOf c) (record { key = key; work = work; pieces = pieces }) Allowed (start (record { key = key; work = work; pieces = pieces })) calls
+  pub runs : List Run
+  pub one-left : afterAll (callsOf c) (record { key = key; work = work; pieces = pieces }) (start (record { key = key; work = work; pieces = pieces })) calls ≡ recorded runs r bytes ∷ []
+
+-- no way of cutting, ordering and joining makes a difference
+abbrev pub NoDifference : Cipher → Type 0
+NoDifference c =
+    (key : List ℕ) (work : Work) (r q : RunRecord) (bytes text : List ℕ) → Done c key work r bytes → Done c key work q text
+    → (bytes ≡ text) × (close c key (ivOf work) r ≡ close c key (ivOf work) q)
+
+-- the IV, the runs' ciphertexts and the closing tag are what the call that seals the whole message gives
+abbrev pub SealedWhole : Cipher → Type 0
+SealedWhole c =
+    (key iv message bytes tag : List ℕ) (r : RunRecord) → Done c key (sealing iv message) r bytes → close c key iv r ≡ given tag
+    → iv ++ bytes ++ tag ≡ sealedRecord c key iv message
+
+-- checking a run's ciphertext gives the record that sealing it gave
+abbrev pub CheckedAsSealed : Cipher → Type 0
+CheckedAsSealed c =
+    (key iv : List ℕ) → Block key → Block iv → (first : ℕ) (kind : Kind) (bytes : List ℕ) (room : ℕ) → Bytes bytes
+    → (r : RunRecord) → (sealRun c key iv first kind bytes room) .answer ≡ given r
+    → checkRun c key iv first (take ((sealRun c key iv first kind bytes room) .reported) ((sealRun c key iv first kind bytes room) .output)) ≡ given r
+
+-- a joined list stays within the limit
+abbrev pub ListWithin : Type 0
+ListWithin = (rs : List RunRecord) (r : RunRecord) → joinList rs ≡ given r → r .first + r .count ≤ limit

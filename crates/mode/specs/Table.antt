@@ -1,6 +1,7 @@
--- Why a list is turned down: document 01's table. A row is a number and whether its condition holds; the first row that holds, in the
+-- Why a list is refused: document 01's table. A row is a number and whether its condition holds; the first row that holds, in the
 -- table's order, is the answer.
-use mathlib.Core.List.{List, [], _∷_}
+use mathlib.Core.Path.{_≡_}
+use mathlib.Core.List.{List, [], _∷_, _++_}
 use mathlib.Core.Bool.{Bool, true, false, cond, not, _||_}
 use Prim.Native.Nat.{ℕ, _+_, _*_, _-_, _%_}
 use lib.ListN.{length}
@@ -31,6 +32,18 @@ unfoldable pub inOrder : List ℕ → List (ℕ × Bool) → Bool
 inOrder numbers [] = true
 inOrder [] (row ∷ rows) = false
 inOrder (n ∷ numbers) (row ∷ rows) = cond (eqb n (row .0)) (inOrder numbers rows) (inOrder numbers (row ∷ rows))
+
+-- none of these rows holds
+abbrev pub NoneHolds : List (ℕ × Bool) → Type 0
+NoneHolds [] = Unit {0}
+NoneHolds (row ∷ rows) = (row .1 ≡ false) × NoneHolds rows
+
+-- a row with the number n holds, and none above it
+pub record Decides (rows : List (ℕ × Bool)) (n : ℕ) : Type 0 where
+  pub above : List (ℕ × Bool)
+  pub below : List (ℕ × Bool)
+  pub rows-are : rows ≡ above ++ (n, true) ∷ below
+  pub none-above : NoneHolds above
 
 -- THE LIMIT: the number of blocks that a list may have
 abbrev pub limit : ℕ
