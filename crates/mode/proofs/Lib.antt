@@ -17,3 +17,5 @@ pub mod NoDifference
 pub mod Demands
 pub mod Toy
 pub mod Witness
+pub mod Refuted
+pub mod Pinned
