@@ -16,9 +16,9 @@ use Rattle.blocks.proofs.Chunks.{bytes-take, bytes-drop}
 use Rattle.blocks.proofs.XorBytes.{bytes-xor, xorBytes-cancel}
 use Rattle.blocks.proofs.TimesX.{length-jump, block-timesX}
 use Rattle.mode.specs.Mode.{Cipher, Lawful, plaintext, ciphertext, zeroBlock, encrypt, startMask, middletext, written, pass, unbroken, tagFrom, unbrokenTag, blocksOf, padded, ivPart, cipherPart, tagPart, sealedRecord, UnbrokenCheck}
-use Rattle.mode.specs.Table.{Answer, refused, given, decide, NoneHolds, unaligned, notSealed, longestMessage, longestSealed}
+use Rattle.mode.specs.Table.{Answer, refused, given, decide, NoneHolds, unaligned, tooLong, notSealed, longestMessage, longestSealed}
 use Rattle.mode.specs.Calls.{unpadded, notPadded, orEmpty, decrypted, plaintextOf, openRows, openSealed, seal, sealRows, outcomeBy}
-use Rattle.mode.specs.Demands.{Gives, SealedFrom, Demand2a, Demand2b, Demand2d}
+use Rattle.mode.specs.Demands.{Gives, SealedFrom, Demand2a, Demand2b, OpensSealed, Demand2d}
 use Rattle.mode.proofs.Rows.{not-too-long}
 use Rattle.mode.proofs.Decisions.{given-rows, passed-rows, outcome-answer, outcome-gives, outcome-given-bytes}
 use Rattle.mode.proofs.SealedLength.{sealed-length}
@@ -401,6 +401,15 @@ demand2b c laws =
     whole : (key sealed m : List ℕ) (room : ℕ) → (openSealed c key sealed room) .answer ≡ given m → Gives (openSealed c key sealed room) m m room
     whole key sealed m room e =
         unfold openSealed in ((outcome-given-bytes (openRows c key sealed room) (orEmpty (unpadded (plaintextOf c key sealed))) m room e) .1)
+
+-- what sealing gave is opened again
+pub opens-sealed : (c : Cipher) → Lawful c → OpensSealed c
+unfolding seal tooLong
+opens-sealed c laws key iv message r room lent kb ib mb e h =
+    let g = given-rows (sealRows c key iv message room) (sealedRecord c key iv message) r (sym (outcome-answer (decide (sealRows c key iv message room) (sealedRecord c key iv message)) (sealedRecord c key iv message) room) ∙ e) in
+    let n : length r ≡ 16 * (length message / 16 + 1) + 32 = ap length (sym (g .1)) ∙ (demand2a c laws) .long key iv message (kb .long) (ib .long) in
+    demand2b c laws .all-sealed key r message lent kb (rw (cipher-length r (omega arith)) h)
+    (record { iv = iv; iv-block = ib; m-bytes = mb; m-fits = ltb-false longestMessage (length message) (g .0 .1 .1 .0); record-is = g .1 })
 
 -- DEMAND 2 (d)
 pub demand2d : (c : Cipher) → Demand2d c

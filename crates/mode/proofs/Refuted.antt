@@ -10,20 +10,18 @@ use lib.ListN.{length, getD, replicate}
 use lib.Dec.{lit<, lit≤, ltb, eqb}
 use Rattle.blocks.specs.Bytes.{xorBytes, concat}
 use Rattle.blocks.specs.Gf128.{jump}
-use Rattle.mode.specs.Mode.{plaintext, ciphertext, RunRecord, blocksOf, startMask, tagFrom}
+use Rattle.mode.specs.Mode.{plaintext, ciphertext, RunRecord, blocksOf, startMask, tagFrom, UnbrokenCheck}
 use Rattle.mode.specs.Table.{Answer, refused, given, decide, anyBeyond, apart, none}
 use Rattle.mode.specs.Calls.{Kind, middle, last, blocksOfRun, Outcome, outcomeBy, joined, joinedAll, blank, joinTwo, joinTwoRows, joinList, joinListRows, passFrom, runRecord, sealRun, checkRun, checkRunRows, close, closeRows, test, Calls}
-use Rattle.mode.specs.Parallel.{Run, Segment, recorded, Call, runAt, joinPair, joinMany, Allowed, start, afterAll, EachCall}
+use Rattle.mode.specs.Parallel.{Run, Segment, recorded, Call, runAt, joinPair, joinMany, Allowed, recordBy, start, afterAll, EachCall}
 use Rattle.mode.specs.Demands.{Gives, Refuses, Expected, Whole, Agrees, Demand3}
 use Rattle.mode.proofs.Decisions.{outcome-answer}
-use Rattle.mode.proofs.Toy.{toy, computed, aKey, anIv, onePiece, onePiece-formed, twoChecked, twoChecked-formed, threePieces, threePieces-formed}
+use Rattle.mode.proofs.Toy.{toy, computed, aKey, anIv, onePiece, onePiece-formed, oneText, oneChecked, oneChecked-formed, twoChecked, twoChecked-formed, threePieces, threePieces-formed}
 
 -- ---- one run, of the empty message
 
--- the padding is 80 and zeros; the start mask is 3 in each byte, the middletext 80 + 3 + 1 and then 3 + 1, and the ciphertext the middletext + 3
-abbrev oneText : List ℕ
-oneText = 0x81 ∷ replicate 15 1
-
+-- the padding is 80 and zeros; the start mask is 3 in each byte, the middletext 80 + 3 + 1 and then 3 + 1, and the ciphertext (oneText) the
+-- middletext + 3
 abbrev oneRecord : RunRecord
 oneRecord = record { first = 0; count = 1; preauthenticator = 0x82 ∷ replicate 15 2 }
 
@@ -78,6 +76,26 @@ module _ (m : Calls) (d : Demand3 toy m) where
   check-forced-later =
       sym (outcome-answer (m .checks-run aKey (replicate 16 7) 1 (replicate 16 7)) [] 0)
       ∙ (d twoChecked twoChecked-formed (runAt 1 0 ∷ []) ((lit< tt, refl), tt)) .answers .0 .with-room (lit≤ tt) .answers
+
+-- ---- tests, of a sealed record that is checked in one run
+
+module _ (m : Calls) (d : Demand3 toy m) (byte : ℕ) where
+  checked-one : Agrees toy m (oneChecked byte) (runAt 0 0 ∷ []) (afterAll m (oneChecked byte) (start (oneChecked byte)) (runAt 0 0 ∷ []))
+  unfolding computed
+  checked-one = d (oneChecked byte) (oneChecked-formed byte) (runAt 0 0 ∷ []) ((lit< tt, refl), tt)
+
+  check-forced-whole : m .checks-run aKey anIv 0 oneText ≡ given oneRecord
+  unfolding computed
+  check-forced-whole = sym (outcome-answer (m .checks-run aKey anIv 0 oneText) [] 0) ∙ checked-one .answers .0 .with-room (lit≤ tt) .answers
+
+  checked-left : afterAll m (oneChecked byte) (start (oneChecked byte)) (runAt 0 0 ∷ []) ≡ recorded (record { first = 0; kind = middle; bytes = oneText } ∷ []) oneRecord [] ∷ []
+  unfolding computed
+  checked-left = ap (λ (a : Answer RunRecord). recordBy ((outcomeBy a [] 0) .answer) (outcomeBy a [] 0) (start (oneChecked byte)) 0) check-forced-whole
+
+  -- the record's tag passes exactly where it is the one that all its ciphertext gives
+  checked-test-forced : (m .tests aKey anIv oneRecord (replicate 16 byte) ≡ given tt) ↔ (oneTag ≡ replicate 16 byte)
+  unfolding computed UnbrokenCheck
+  checked-test-forced = checked-one .single _ oneRecord [] checked-left .tests-whole
 
 -- ---- joins, of the records of three runs
 
@@ -293,7 +311,7 @@ mask-before-last-refuted d =
     let e : _≡_ {A = ℕ} 2 7 = ap (λ (t : List ℕ). getD t 0 0) (same-answer _ _ (close-forced (closingBy maskBefore (test toy)) d)) in
     omega arith
 
--- a test that passes every tag, and one that passes none
+-- a test that passes every tag, and one that passes none: of a message that is sealed, and of a record that is checked
 pub passes-any-tag-refuted : Demand3 toy (closingBy (close toy) (λ key iv r tag. given tt)) → ⊥
 passes-any-tag-refuted d =
     let e : _≡_ {A = ℕ} 7 0 = ap (λ (t : List ℕ). getD t 0 0) ((test-forced (closingBy (close toy) (λ key iv r tag. given tt)) d (replicate 16 0) refl) .0 refl) in
@@ -301,3 +319,11 @@ passes-any-tag-refuted d =
 
 pub passes-no-tag-refuted : Demand3 toy (closingBy (close toy) (λ key iv r tag. refused 6)) → ⊥
 passes-no-tag-refuted d = no-answer 6 tt ((test-forced (closingBy (close toy) (λ key iv r tag. refused 6)) d oneTag refl) .1 refl)
+
+pub passes-any-checked-refuted : Demand3 toy (closingBy (close toy) (λ key iv r tag. given tt)) → ⊥
+passes-any-checked-refuted d =
+    let e : _≡_ {A = ℕ} 7 0 = ap (λ (t : List ℕ). getD t 0 0) ((checked-test-forced (closingBy (close toy) (λ key iv r tag. given tt)) d 0) .0 refl) in
+    omega arith
+
+pub passes-no-checked-refuted : Demand3 toy (closingBy (close toy) (λ key iv r tag. refused 6)) → ⊥
+passes-no-checked-refuted d = no-answer 6 tt ((checked-test-forced (closingBy (close toy) (λ key iv r tag. refused 6)) d 7) .1 refl)

@@ -54,6 +54,17 @@ pub onePiece-formed : WellFormed onePiece
 unfolding computed
 onePiece-formed = record { key-long = refl; fits = (refl, lit≤ tt); cut = tt; pieces-are = refl }
 
+-- the sealed record of the empty message with some tag, its ciphertext in one piece: the tag is 7 in each byte (proofs/Refuted.antt)
+abbrev pub oneText : List ℕ
+oneText = 0x81 ∷ replicate 15 1
+
+abbrev pub oneChecked : ℕ → Setting
+oneChecked byte = record { key = aKey; work = checking (anIv ++ (oneText ++ replicate 16 byte)); pieces = oneText ∷ [] }
+
+pub oneChecked-formed : (byte : ℕ) → WellFormed (oneChecked byte)
+unfolding computed
+oneChecked-formed byte = record { key-long = refl; fits = (lit≤ tt, lit≤ tt, refl); cut = refl; pieces-are = refl }
+
 -- a ciphertext of two blocks in two pieces
 abbrev pub twoChecked : Setting
 twoChecked = record { key = aKey; work = checking (replicate 64 7); pieces = replicate 16 7 ∷ replicate 16 7 ∷ [] }

@@ -216,6 +216,14 @@ module _ (c : Cipher) (m : Calls) where
   Demand3 =
       (s : Setting) → WellFormed s → (calls : List Call) → EachCall m s Allowed (start s) calls → Agrees s calls (afterAll m s (start s) calls)
 
+-- ---- beside demand 2
+
+-- what sealing gave is opened again, by whoever lends as much output as there is ciphertext
+abbrev pub OpensSealed : Cipher → Type 0
+OpensSealed c =
+    (key iv message r : List ℕ) (room lent : ℕ) → Block key → Block iv → Bytes message → (seal c key iv message room) .answer ≡ given r
+    → length r - 32 ≤ lent → Gives (openSealed c key r lent) message message lent
+
 -- ---- beside demand 3
 
 -- a list of calls that is allowed, over some cut, and that leaves a single filled place
