@@ -8,7 +8,7 @@ use lib.ListN.{length, take, drop, length-drop}
 use lib.Seq.{take-at, drop-at, drop-append-add, take-all}
 use Rattle.blocks.specs.Bytes.{zeros}
 use Rattle.calls.specs.Layout.{Fresh}
-use Rattle.blocks.proofs.Zeros.{drop-zeros, length-zeros}
+use Rattle.blocks.proofs.Zeros.{drop-zeros, length-zeros, zeros-append}
 
 -- a cleared output
 pub fresh : (n : ℕ) (new : List ℕ) → new ≡ zeros n → Fresh new
@@ -39,6 +39,15 @@ drop-all (a ∷ x) = drop-all x
 module _ (text out : List ℕ) (size left : ℕ) (l : length text ≡ size) (e : out ≡ text ++ zeros left) where
   pub front-is : take size out ≡ text
   front-is = ap (take size) e ∙ take-at text (zeros left) size l
+
+  -- cleared again
+  pub cleared : (new : List ℕ) → new ≡ zeros (length (take (size - 0) (drop 0 out))) → take 0 out ++ (new ++ drop (size - 0) (drop 0 out)) ≡ zeros (size + left)
+  cleared new en =
+      let z : size - 0 ≡ size = omega arith in
+      ap₂ (λ (x y : List ℕ). x ++ y)
+      (en ∙ ap (λ (k : ℕ). zeros (length (take k out))) z ∙ ap zeros (ap length front-is ∙ l))
+      (ap (λ (k : ℕ). drop k out) z ∙ ap (drop size) e ∙ drop-at text (zeros left) size l)
+      ∙ zeros-append size left
 
   module _ (new output : List ℕ) (h : size % 16 ≡ 0) (en : new ≡ output ++ drop (length (take size out) / 16 * 16) (take size out)) where
     all-new : new ≡ output

@@ -12,9 +12,7 @@ ghost use Rattle.mode.specs.Calls.{openSealed, writtenOf};
 ghost use Rattle.calls.specs.Layout.{Fresh};
 ghost use Rattle.calls.specs.Work.{openFirstRows, messageEnd, released, SealedLengths, TextOpened};
 
-// The longest sealed record, and the shortest: an IV, a block and a tag.
-const LONGEST: usize = 64032;
-
+// The shortest sealed record: an IV, a block and a tag.
 const SHORTEST: usize = 48;
 
 // The first of the rows that go by lengths, or 0.
@@ -27,7 +25,7 @@ fn open_refusal(key: &[u8], sealed: &[u8], room: usize) -> u8
     if sealed.len() < SHORTEST {
         return 3;
     }
-    if LONGEST < sealed.len() {
+    if mode::LONGEST_SEALED < sealed.len() {
         return 3;
     }
     if sealed.len() % 16 != 0 {
@@ -41,7 +39,7 @@ fn open_refusal(key: &[u8], sealed: &[u8], room: usize) -> u8
 
 // ---- padding
 
-// Where the padding starts, or the length where the text is not padded: 80, and up to 15 zeros after it.
+// The padding is a byte 80 and up to 15 zeros after it, at the end of a text. Where it starts; where a text is not padded, its length.
 fn message_end(text: &[u8]) -> usize
     requires { ⌜ 16 ≤ length (now text) ⌝ }
     requires { ⌜ length (now text) % 16 ≡ 0 ⌝ }
@@ -120,15 +118,16 @@ fn open_into(key: &[u8], sealed: &[u8], out: &mut [u8]) -> Written
 {
     let tag = open_text(key, sealed, out);
     let stop = sealed.len() - 16;
+    let size = sealed.len() - 32;
     let given = blocks::block::load(sealed, stop);
     if !blocks::block::equal(tag, given) {
-        blocks::block::clear(out);
+        blocks::block::clear(&mut out[0..size]); // the plaintext; behind it the output is zero
         return Written {
             refusal: 6,
             length: 0,
         };
     }
-    release(sealed.len() - 32, out)
+    release(size, out)
 }
 
 // OPEN a sealed record under a key: the message is written to the front of the output.

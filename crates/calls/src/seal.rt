@@ -12,9 +12,6 @@ ghost use Rattle.mode.specs.Calls.{sealRows, seal as sealOf, writtenOf};
 ghost use Rattle.calls.specs.Layout.{Fresh};
 ghost use Rattle.calls.specs.Work.{writtenGiven};
 
-// The longest message: its padding fills the last block of the limit.
-const LONGEST: usize = 63999;
-
 // The first row of the table that holds, or 0.
 fn seal_refusal(key: &[u8], iv: &[u8], message: &[u8], room: usize) -> u8
     ensures { λ n. ⌜ n ≡ firstRow (sealRows aes (now (key .entry)) (now (iv .entry)) (now (message .entry)) room) ⌝ }
@@ -25,7 +22,7 @@ fn seal_refusal(key: &[u8], iv: &[u8], message: &[u8], room: usize) -> u8
     if iv.len() != 16 {
         return 2;
     }
-    if LONGEST < message.len() {
+    if mode::LONGEST_MESSAGE < message.len() {
         return 3;
     }
     if room < message.len() / 16 * 16 + 48 {

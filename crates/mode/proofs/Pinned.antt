@@ -6,12 +6,14 @@ use mathlib.Core.List.{List, [], _∷_}
 use mathlib.Core.Bool.{Bool, true, false, cond}
 use Prim.Native.Nat.{ℕ, suc, _%_, _<_}
 use lib.ListN.{length}
+use native.Mathlib.Omega.{arith}
 use borrow.Author.Tests.{ltb-false}
 use Rattle.blocks.specs.Bytes.{concat}
 use Rattle.mode.specs.Mode.{Cipher, cipherPart, sealedRecord}
 use Rattle.mode.specs.Table.{given, decide, tableOrder, inOrder, tooLong, notSealed, apart, longestMessage}
 use Rattle.mode.specs.Calls.{Kind, middle, last, seal, sealRows}
 use Rattle.mode.specs.Parallel.{sealing, checking, lastKind, textOf, Fits, Cut, WellFormed, Segment, isRecorded, segment, runAt, joinPair, joinMany, consecutive, AllRecorded, recordsAt, Allowed}
+use Rattle.mode.specs.Demands.{InTable}
 use Rattle.mode.proofs.Passed.{has-16}
 use Rattle.mode.proofs.Decisions.{given-rows, outcome-answer}
 use Rattle.mode.proofs.Demand2.{sealed-lengths}
@@ -109,3 +111,7 @@ not-in-table = refl
 pub not-after-table : inOrder tableOrder (rowsOf (7 ∷ 10 ∷ [])) ≡ false
 unfolding inOrder rowsOf
 not-after-table = refl
+
+-- demand 1 bounds the numbers to the table's
+pub only-nine : (n : ℕ) → InTable n → (n ≡ 0 → ⊥) × (n < 10)
+only-nine n h = (λ e. omega arith, omega arith)

@@ -8,6 +8,11 @@ ghost use Rattle.mode.specs.Calls.{joinTwo, recordAnswerOf, refusedRecor
 // The most blocks that a list may have.
 pub const LIMIT: u64 = 4000;
 
+// So the longest message, whose padding fills the last block, and the longest sealed record.
+pub const LONGEST_MESSAGE: usize = 16 * LIMIT as usize - 1;
+
+pub const LONGEST_SEALED: usize = 16 * LIMIT as usize + 32;
+
 // Document 01's run record: the number of the run's first block, its block count, and the pre-authenticator of the run alone.
 pub struct RunRecord {
     pub first: u32,
