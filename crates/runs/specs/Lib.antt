@@ -1,2 +1,2 @@
--- What the functions of this crate ask (Expanded) and give (Ran, Checked).
+-- What the functions of this crate ask (Expanded) and give (SealedInPlace, OpenedInPlace, CheckedThrough).
 pub mod Run

@@ -1,15 +1,11 @@
 // Document 01, step 2, over the blocks of a slice: each block is masked, goes through one half to the middletext and through the other
 // on, and is masked again; the pre-authenticator takes up the middletext, and the mask is multiplied by x.
 ghost use mathlib.Core.Path.{_≡_};
-ghost use Prim.Native.Nat.{_/_};
-ghost use lib.ListN.{length};
-ghost use Rattle.blocks.specs.Bytes.{firstBlocks, xorBytes};
+ghost use Rattle.blocks.specs.Bytes.{xorBytes};
 ghost use Rattle.blocks.specs.Gf128.{timesX};
 ghost use Rattle.fips197.specs.Sbox.{sbox as sboxOf, invSbox};
 ghost use Rattle.aes.specs.Table.{Tabulates};
-ghost use Rattle.mode.specs.Mode.{plaintext, ciphertext, zeroBlock, pass};
-ghost use Rattle.mode.specs.Aes.{aes};
-ghost use Rattle.runs.specs.Run.{keyOf, Expanded, Ran, Checked, opening};
+ghost use Rattle.runs.specs.Run.{Expanded, SealedInPlace, OpenedInPlace, CheckedThrough};
 
 // The mask after a run's last block, and the pre-authenticator of the run alone.
 pub struct Chain {
@@ -29,7 +25,7 @@ fn take_up(preauthenticator: [u8; 16], middle: [u8; 16]) -> [u8; 16]
 pub fn seal_blocks(mask: [u8; 16], keys: &[u8; 176], sbox: &[u8; 256], text: &mut [u8]) -> Chain
     requires { ⌜ Expanded (now keys) ⌝ }
     requires { ⌜ Tabulates (now sbox) sboxOf ⌝ }
-    ensures { λ c. ⌜ Ran (pass aes plaintext (keyOf (now (keys .entry))) (firstBlocks (length (now (text .entry)) / 16) (now (text .entry))) mask zeroBlock) (length (now (text .entry)) / 16) (now (text .entry)) (now (text .exit)) (c .mask) (c .preauthenticator) ⌝ }
+    ensures { λ c. ⌜ SealedInPlace (now (keys .entry)) mask (now (text .entry)) (now (text .exit)) (c .mask) (c .preauthenticator) ⌝ }
 {
     let n = text.len() / 16;
     let mut m = mask;
@@ -59,7 +55,7 @@ pub fn seal_blocks(mask: [u8; 16], keys: &[u8; 176], sbox: &[u8; 256], text: &mu
 pub fn open_blocks(mask: [u8; 16], keys: &[u8; 176], inv_sbox: &[u8; 256], text: &mut [u8]) -> Chain
     requires { ⌜ Expanded (now keys) ⌝ }
     requires { ⌜ Tabulates (now «inv_sbox») invSbox ⌝ }
-    ensures { λ c. ⌜ Ran (opening (keyOf (now (keys .entry))) (firstBlocks (length (now (text .entry)) / 16) (now (text .entry))) mask) (length (now (text .entry)) / 16) (now (text .entry)) (now (text .exit)) (c .mask) (c .preauthenticator) ⌝ }
+    ensures { λ c. ⌜ OpenedInPlace (now (keys .entry)) mask (now (text .entry)) (now (text .exit)) (c .mask) (c .preauthenticator) ⌝ }
 {
     let n = text.len() / 16;
     let mut m = mask;
@@ -89,7 +85,7 @@ pub fn open_blocks(mask: [u8; 16], keys: &[u8; 176], inv_sbox: &[u8; 256], text:
 pub fn check_blocks(mask: [u8; 16], keys: &[u8; 176], inv_sbox: &[u8; 256], text: &[u8]) -> Chain
     requires { ⌜ Expanded (now keys) ⌝ }
     requires { ⌜ Tabulates (now «inv_sbox») invSbox ⌝ }
-    ensures { λ c. ⌜ Checked (pass aes ciphertext (keyOf (now (keys .entry))) (firstBlocks (length (now (text .entry)) / 16) (now (text .entry))) mask zeroBlock) (c .mask) (c .preauthenticator) ⌝ }
+    ensures { λ c. ⌜ CheckedThrough (now (keys .entry)) mask (now (text .entry)) (c .mask) (c .preauthenticator) ⌝ }
 {
     let n = text.len() / 16;
     let mut m = mask;
