@@ -203,3 +203,11 @@ unpad-complete (suc k) m h = by (same (padded (take (length (padded m) - suc k) 
         ap (λ (l : List ℕ). some l)
         (padded-inj (take (length (padded m) - suc k) (padded m)) m (same-true (padded (take (length (padded m) - suc k) (padded m))) (padded m) p))
     by false p rec = rec (closer p (ltb (length (padded m)) (length m + suc k)) refl)
+
+-- two messages never pad to the same bytes
+pub padded-once : (m n : List ℕ) → padded m ≡ padded n → m ≡ n
+padded-once m n e =
+    let p : unpadFrom 16 (padded m) ≡ some m = unpad-complete 16 m (rw (length-padded m) (omega arith)) in
+    let q : unpadFrom 16 (padded n) ≡ some n = unpad-complete 16 n (rw (length-padded n) (omega arith)) in
+    let s : some m ≡ some n = sym p ∙ ap (unpadFrom 16) e ∙ q in
+    cc

@@ -144,7 +144,8 @@ module _ (c : Cipher) where
 
 -- ---- whole lists
 
--- the message of which `padded` gives these bytes, looked for among those that are up to k bytes shorter
+-- the message of which `padded` gives these bytes, looked for among those that are up to k bytes shorter, the shortest first. At most one
+-- message fits (`padded-once` in proofs/Bytes.antt), so the order makes no difference.
 unfoldable pub unpadFrom : ℕ → List ℕ → Option (List ℕ)
 unpadFrom zero bytes = no-message
 unpadFrom (suc k) bytes =
