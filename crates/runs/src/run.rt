@@ -42,7 +42,7 @@ pub fn seal_blocks(mask: [u8; 16], keys: &[u8; 176], sbox: &[u8; 256], text: &mu
         let next_p = take_up(p, middle);
         p = next_p;
         let next_m = blocks::gf128::times_x(m);
-        m = next_m; // after the last block, the mask that the tag takes
+        m = next_m;
         i += 1;
     }
     Chain {
