@@ -75,12 +75,18 @@ testBytes key iv r tag = cond (notRecord r) 24 (number (test aes key iv (decoded
 abbrev pub recordPart : RunAnswer → RecordAnswer
 recordPart a = record { refusal = a .refusal; run = a .run }
 
--- what comes back: the number, the reported length, the ciphertext's output and the record's
+-- the number, the reported length, the ciphertext's output and the record's
 pub record RunOutcome : Type 0 where
   pub refusal : ℕ
   pub reported : ℕ
   pub output : List ℕ
   pub run : List ℕ
+
+pub record ReportedRun (o : RunOutcome) (n long : ℕ) (out run : List ℕ) : Type 0 where
+  pub answer : n ≡ o .refusal
+  pub written : long ≡ o .reported
+  pub output : out ≡ o .output
+  pub record-output : run ≡ o .run
 
 -- The run is the last one unless `last` is 0. Its ciphertext has an output of `size` bytes, its record one of `room` bytes; where there is no
 -- room for the record, the ciphertext is not kept.

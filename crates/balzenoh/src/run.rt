@@ -5,7 +5,7 @@ ghost use mathlib.Core.Bool.{cond};
 ghost use lib.ListN.{length as lengthOf};
 ghost use Rattle.blocks.specs.Bytes.{zeros};
 ghost use Rattle.mode.specs.Table.{tooShort};
-ghost use Rattle.balzenoh.specs.Exports.{Returned, lentRecord, checkRunBytes, sealRunBytes};
+ghost use Rattle.balzenoh.specs.Exports.{Returned, ReportedRun, lentRecord, checkRunBytes, sealRunBytes};
 
 // Where its record has no room, a run's ciphertext is not kept.
 fn keep(length: usize, room: usize, out: &mut [u8]) -> usize
@@ -31,7 +31,7 @@ pub extern "C" fn balzenoh_seal_run(
     length: &mut usize,
     run: &mut [u8],
 ) -> u8
-    ensures { λ n. ⌜ record { refusal = n; reported = now (length .exit); output = now (out .exit); run = now (run .exit) } ≡ sealRunBytes (now (key .entry)) (now (iv .entry)) first last (now (bytes .entry)) (lengthOf (now (out .entry))) (lengthOf (now (run .entry))) ⌝ }
+    ensures { λ n. ⌜ ReportedRun (sealRunBytes (now (key .entry)) (now (iv .entry)) first last (now (bytes .entry)) (lengthOf (now (out .entry))) (lengthOf (now (run .entry)))) n (now (length .exit)) (now (out .exit)) (now (run .exit)) ⌝ }
 {
     let answer = calls::run::seal_run(key, iv, first, last != 0, bytes, out);
     *length = keep(answer.length, run.len(), out);

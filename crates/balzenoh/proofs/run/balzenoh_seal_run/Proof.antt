@@ -35,11 +35,12 @@ returns c =
     let x = c .before .before .give .ensures in
     let y = c .before .before .before .before .before .before .before .keep .ensures in
     let z = c .before .before .before .before .before .before .before .before .before .before .before .seal-run .ensures in
-    let refusal = x .answer ∙ ap (λ (a : RunAnswer). number ((lentRecord (recordPart a) room) .answer)) (z .0) in
-    let reported = y .0 ∙ ap (λ (a : RunAnswer). cond (tooShort room 24) 0 (a .length)) (z .0) in
-    let output = y .1 ∙ ap₂ (λ (n : ℕ) (o : List ℕ). cond (tooShort room 24) (zeros n) o) (c .before .before .before .before .before .before .before .before .before .before .before .seal-run .kept .1 .1 .1 .1 .1 .0) (z .1) in
-    let run = x .output ∙ ap (λ (a : RunAnswer). (lentRecord (recordPart a) room) .output) (z .0) in
-    λ i. record { refusal = refusal i; reported = reported i; output = output i; run = run i }
+    record {
+      answer = x .answer ∙ ap (λ (a : RunAnswer). number ((lentRecord (recordPart a) room) .answer)) (z .0);
+      written = y .0 ∙ ap (λ (a : RunAnswer). cond (tooShort room 24) 0 (a .length)) (z .0);
+      output = y .1 ∙ ap₂ (λ (n : ℕ) (o : List ℕ). cond (tooShort room 24) (zeros n) o) (c .before .before .before .before .before .before .before .before .before .before .before .seal-run .kept .1 .1 .1 .1 .1 .0) (z .1);
+      record-output = x .output ∙ ap (λ (a : RunAnswer). (lentRecord (recordPart a) room) .output) (z .0);
+    }
 
 pub balzenoh-seal-run-spec : {M : Type 1} → statement M
 balzenoh-seal-run-spec =

@@ -1,0 +1,2 @@
+-- Back: what comes back of a call, as equations.
+pub mod Back
