@@ -16,3 +16,9 @@ pub fn onto(so_far: RecordAnswer, next: RunRecord) -> RecordAnswer
 {
     record_list::onto(so_far, next)
 }
+
+pub fn join_list(records: &[RunRecord]) -> RecordAnswer
+    ensures { λ a. ⌜ a ≡ recordAnswerOf (joinList (now (records .entry))) ⌝ }
+{
+    record_list::join_list(records)
+}
