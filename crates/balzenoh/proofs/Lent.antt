@@ -1,14 +1,14 @@
 -- An answer that is written to a lent output.
 use mathlib.Core.Path.{_≡_, refl, sym, ap, _∙_}
 use mathlib.Core.Bool.{Bool, true, false, cond, not}
-use mathlib.Core.List.{List, [], _∷_, _++_}
+use mathlib.Core.List.{List, _++_}
 use Prim.Native.Nat.{ℕ, _-_, _≤_}
 use native.Mathlib.Omega.{arith}
 use lib.Dec.{eqb, ltb}
 use lib.ListN.{length}
 use borrow.Author.Tests.{eqb-false, ltb-false}
 use Rattle.blocks.specs.Bytes.{zeros}
-use Rattle.mode.specs.Table.{Answer, refused, given, decide, firstRow}
+use Rattle.mode.specs.Table.{given, decide, firstRow}
 use Rattle.mode.specs.Calls.{Outcome, number}
 use Rattle.mode.proofs.Rows.{outcome-refused, outcome-given}
 use Rattle.mode.proofs.Answers.{refuses}

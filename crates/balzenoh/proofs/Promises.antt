@@ -1,6 +1,6 @@
 -- THE PROMISES of the exported functions: each number is that of a row, or 24 of this layer; after a refusal everything lent is zero.
-use mathlib.Core.Path.{_≡_, refl, sym, ap, _∙_}
-use mathlib.Core.Logic.{_⊎_, inl, inr}
+use mathlib.Core.Path.{_≡_, refl, ap, _∙_}
+use mathlib.Core.Logic.{inl, inr}
 use mathlib.Core.Bool.{Bool, true, false, cond, not, _&&_, _||_}
 use mathlib.Core.List.{List, [], _∷_}
 use Prim.Native.Nat.{ℕ}
@@ -13,7 +13,7 @@ use Rattle.mode.specs.declared.RecordAnswer.{RecordAnswer}
 use Rattle.mode.specs.declared.TagAnswer.{TagAnswer}
 use Rattle.mode.specs.Aes.{aes}
 use Rattle.mode.specs.Table.{Answer, refused, given, decide}
-use Rattle.mode.specs.Calls.{Outcome, outcomeBy, Kind, seal, sealRows, openSealed, openRows, sealRun, sealRunRows, blocksOfRun, passFrom, runRecord, checkRun, checkRunRows, joinTwo, joinTwoRows, joinList, joinListRows, close, closeRows, test, testRows, jumpMask, jumpRows, number, runAnswerOf, recordAnswerOf, tagAnswerOf}
+use Rattle.mode.specs.Calls.{outcomeBy, Kind, seal, sealRows, openSealed, openRows, sealRun, sealRunRows, blocksOfRun, passFrom, runRecord, checkRun, checkRunRows, joinTwo, joinTwoRows, joinList, joinListRows, close, closeRows, test, testRows, jumpMask, jumpRows, number, runAnswerOf, recordAnswerOf, tagAnswerOf}
 use Rattle.calls.specs.Layout.{kindOf}
 use Rattle.balzenoh.specs.Encoding.{decoded, recordsOf}
 use Rattle.balzenoh.specs.Exports.{lentRows, lent, lentRecord, recordPart, sealRunBytes, notRecord, notRecords, joinBytes, joinListBytes, closeBytes, testBytes}

@@ -6,7 +6,6 @@ use Prim.Native.Nat.{ℕ, _%_}
 use lib.Dec.{eqb}
 use lib.ListN.{length}
 use Rattle.blocks.specs.Bytes.{zeros}
-use Rattle.mode.specs.declared.RunRecord.{RunRecord}
 use Rattle.mode.specs.declared.RunAnswer.{RunAnswer}
 use Rattle.mode.specs.declared.RecordAnswer.{RecordAnswer}
 use Rattle.mode.specs.declared.TagAnswer.{TagAnswer}

@@ -2,10 +2,9 @@
 use borrow.Author.Needs.{needs}
 use mathlib.Core.Path.{_≡_, sym, ap, _∙_}
 use mathlib.Core.List.{List, _++_}
-use Prim.Native.Nat.{ℕ, _-_}
+use Prim.Native.Nat.{ℕ}
 use native.Mathlib.Omega.{arith}
 use lib.ListN.{length, drop}
-use Rattle.blocks.specs.Bytes.{zeros}
 use Rattle.mode.specs.Table.{firstRow}
 use Rattle.blocks.proofs.Zeros.{drop-zeros}
 use Rattle.balzenoh.specs.Encoding.{encoded}

@@ -1,11 +1,9 @@
 -- Refused, or stored in front of zeros.
 use borrow.Author.Needs.{needs}
 use mathlib.Core.Path.{_≡_, sym, ap, _∙_}
-use mathlib.Core.List.{List, _++_}
-use Prim.Native.Nat.{ℕ, _-_}
+use Prim.Native.Nat.{ℕ}
 use native.Mathlib.Omega.{arith}
-use lib.ListN.{length, drop}
-use Rattle.blocks.specs.Bytes.{zeros}
+use lib.ListN.{length}
 use Rattle.mode.specs.Table.{firstRow}
 use Rattle.calls.proofs.Outputs.{stored-front}
 use Rattle.balzenoh.specs.Exports.{lentRows}
