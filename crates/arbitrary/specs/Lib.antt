@@ -1,2 +1,2 @@
--- Back: what comes back of a call, as equations.
-pub mod Back
+-- Returned: what comes back of a call, as equations.
+pub mod Returned

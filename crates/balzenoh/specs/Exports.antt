@@ -24,9 +24,9 @@ pub record Returned {A : Type 0} (o : Outcome A) (n : ℕ) (out : List ℕ) : Ty
   pub output : out ≡ o .output
 
 -- the number, the reported length, and the lent output
-pub record Reported {A : Type 0} (o : Outcome A) (n long : ℕ) (out : List ℕ) : Type 0 where
+pub record Reported {A : Type 0} (o : Outcome A) (n reported : ℕ) (out : List ℕ) : Type 0 where
   pub answer : n ≡ number (o .answer)
-  pub written : long ≡ o .reported
+  pub written : reported ≡ o .reported
   pub output : out ≡ o .output
 
 -- ---- an answer that is written to a lent output: the call's refusal, or 5 where the output is too short
@@ -81,9 +81,10 @@ pub record RunOutcome : Type 0 where
   pub output : List ℕ
   pub run : List ℕ
 
-pub record ReportedRun (o : RunOutcome) (n long : ℕ) (out run : List ℕ) : Type 0 where
+-- all four come back
+pub record ReportedRun (o : RunOutcome) (n reported : ℕ) (out run : List ℕ) : Type 0 where
   pub answer : n ≡ o .refusal
-  pub written : long ≡ o .reported
+  pub written : reported ≡ o .reported
   pub output : out ≡ o .output
   pub record-output : run ≡ o .run
 

@@ -113,16 +113,16 @@ module _ {M : Type 1} (𝓤 : URA M) (H : Heap 𝓤) (A : Atoms 𝓤) (W : Given
       use1 W (‵ Cell) (W .laws .raw-at fullShare (tyArray rec-laws.mir 3) l 0 (only (vals xs))) $ done !))
 
   module _ (n : ℕ) where
-    abbrev Lent : Fml
-    Lent = Elements (take n xs) 0
+    abbrev Front : Fml
+    Front = Elements (take n xs) 0
 
-    abbrev Kept : Fml
-    Kept = Elements (dropped n xs) (place 0 (mem R .size) (length (take n xs)))
+    abbrev Others : Fml
+    Others = Elements (dropped n xs) (place 0 (mem R .size) (length (take n xs)))
 
     -- it is cut into its first n elements and the others, and joined again
-    cut : ent 𝓤 (sem 𝓤 H A (arr-parts (shares R) 3 .part fullShare xs l 0)) (sep 𝓤 (sem 𝓤 H A Lent) (sem 𝓤 H A Kept))
+    cut : ent 𝓤 (sem 𝓤 H A (arr-parts (shares R) 3 .part fullShare xs l 0)) (sep 𝓤 (sem 𝓤 H A Front) (sem 𝓤 H A Others))
     cut =
-        qed W (‵ (arr-parts (shares R) 3 .part fullShare xs l 0) ∷ []) {P = sep 𝓤 (sem 𝓤 H A Lent) (sem 𝓤 H A Kept)} (
+        qed W (‵ (arr-parts (shares R) 3 .part fullShare xs l 0) ∷ []) {P = sep 𝓤 (sem 𝓤 H A Front) (sem 𝓤 H A Others)} (
         fsplit ! $ drop ! $ rewrite ! 0 (λ (F : Fml). ‵ F) (parts-cells R fullShare xs l 0) refl $
         rewrite ! 0 (λ (ys : List RunRecord). ‵ (cells (Sh R fullShare) ys l 0)) (sym (take-append-drop n xs)) refl $
         use1 W (‵ (cells (Sh R fullShare) (take n xs) l 0) ⊛ ‵ (cells (Sh R fullShare) (dropped n xs) l (place 0 (mem R .size) (length (take n xs)))))
@@ -131,9 +131,9 @@ module _ {M : Type 1} (𝓤 : URA M) (H : Heap 𝓤) (A : Atoms 𝓤) (W : Given
         rewrite ! 0 (λ (F : Fml). ‵ F) (sym (parts-cells R fullShare (dropped n xs) l (place 0 (mem R .size) (length (take n xs))))) refl $
         feqI ! ℕ (length (dropped n xs)) (length (dropped n xs)) refl $ fjoin ! $ move ! (1 ∷ 0 ∷ []) $ done !)
 
-    glue : length xs ≡ 3 → ent 𝓤 (sep 𝓤 (sem 𝓤 H A Lent) (sem 𝓤 H A Kept)) (sem 𝓤 H A (arr-parts (shares R) 3 .part fullShare xs l 0))
+    glue : length xs ≡ 3 → ent 𝓤 (sep 𝓤 (sem 𝓤 H A Front) (sem 𝓤 H A Others)) (sem 𝓤 H A (arr-parts (shares R) 3 .part fullShare xs l 0))
     glue three =
-        qed W (‵ Lent ∷ ‵ Kept ∷ []) {P = sem 𝓤 H A (arr-parts (shares R) 3 .part fullShare xs l 0)} (
+        qed W (‵ Front ∷ ‵ Others ∷ []) {P = sem 𝓤 H A (arr-parts (shares R) 3 .part fullShare xs l 0)} (
         fsplit ! $ drop ! $ rewrite ! 0 (λ (F : Fml). ‵ F) (parts-cells R fullShare (take n xs) l 0) refl $ move ! (1 ∷ []) $ fsplit ! $ drop ! $
         rewrite ! 0 (λ (F : Fml). ‵ F) (parts-cells R fullShare (dropped n xs) l (place 0 (mem R .size) (length (take n xs)))) refl $ move ! (1 ∷ 0 ∷ []) $
         use2 W (‵ (cells (Sh R fullShare) (take n xs ++ dropped n xs) l 0)) (join-app 𝓤 H A (Sh R fullShare) (take n xs) (dropped n xs) l 0) $
@@ -216,9 +216,9 @@ module _ {M : Type 1} (𝓤 : URA M) (H : Heap 𝓤) (A : Atoms 𝓤) (W : Given
         -- the first n elements are lent
         move ! (10 ∷ []) $ use1 W (‵ (partAt Three fullShare xs l₃ 0)) (array-in 𝓤 H A W l₃ xs is) $
         use1 W (‵ (arr-parts (shares R) 3 .part fullShare xs l₃ 0)) (array-apart 𝓤 H A W R fullShare tt 3 xs l₃ 0) $
-        use1 W (‵ (Lent 𝓤 H A W l₃ xs n) ⊛ ‵ (Kept 𝓤 H A W l₃ xs n)) (cut 𝓤 H A W l₃ xs n) $ split ! $
+        use1 W (‵ (Front 𝓤 H A W l₃ xs n) ⊛ ‵ (Others 𝓤 H A W l₃ xs n)) (cut 𝓤 H A W l₃ xs n) $ split ! $
         lft-new ! tt (λ α. move ! (1 ∷ []) $
-        use1 W (later (some (λ (γ : GName). ‵ (OwnSlice α l₃ γ) ⊛ ‵ (flent (α ∷ []) (Lent 𝓤 H A W l₃ xs n))))) (lends-shr-slice 𝓤 H A W R (named 0) (α ∷ []) fullShare list l₃ 0 room) $
+        use1 W (later (some (λ (γ : GName). ‵ (OwnSlice α l₃ γ) ⊛ ‵ (flent (α ∷ []) (Front 𝓤 H A W l₃ xs n))))) (lends-shr-slice 𝓤 H A W R (named 0) (α ∷ []) fullShare list l₃ 0 room) $
         await ! tt $ pick ! (λ γ. split ! $ move ! (0 ∷ 2 ∷ []) $ use2 W (raw (Callee 𝓤 H A mem run .pre (to α l₃ γ))) (takes α l₃ γ) $
         -- [what the callee asks; the lender's part; the other elements; the slice; ..]
         calls-at ! fm (Callee 𝓤 H A mem run) known (to α l₃ γ) (and-then ! (load ! (from ! (stop !)) (look ! 3 refl)) (no-more !)) (λ u.
