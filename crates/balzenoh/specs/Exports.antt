@@ -1,19 +1,33 @@
 -- What each exported function comes to, over the outcomes of the calls.
+use mathlib.Core.Path.{_≡_}
 use mathlib.Core.Bool.{Bool, cond, not, _||_}
 use mathlib.Core.List.{List, [], _∷_}
 use Prim.Native.Nat.{ℕ, _%_}
 use lib.Dec.{eqb}
 use lib.ListN.{length}
 use Rattle.blocks.specs.Bytes.{zeros}
-use Rattle.mode.specs.declared.RunRecord.{RunRecord}
 use Rattle.mode.specs.declared.RunAnswer.{RunAnswer}
 use Rattle.mode.specs.declared.RecordAnswer.{RecordAnswer}
 use Rattle.mode.specs.declared.TagAnswer.{TagAnswer}
 use Rattle.mode.specs.Mode.{zeroBlock}
 use Rattle.mode.specs.Aes.{aes}
 use Rattle.mode.specs.Table.{decide, tooShort}
-use Rattle.mode.specs.Calls.{Outcome, outcomeBy, joinTwo, joinList, close, test, number, runAnswerOf, recordAnswerOf, refusedRecord, tagAnswerOf}
+use Rattle.mode.specs.Calls.{Outcome, outcomeBy, sealRun, checkRun, joinTwo, joinList, close, test, number, runAnswerOf, recordAnswerOf, refusedRecord, tagAnswerOf}
+use Rattle.calls.specs.Layout.{kindOf}
 use Rattle.balzenoh.specs.Encoding.{encoded, decoded, recordsOf}
+
+-- ---- what comes back, by the outcome of a call
+
+-- the number, and the lent output
+pub record Returned {A : Type 0} (o : Outcome A) (n : ℕ) (out : List ℕ) : Type 0 where
+  pub answer : n ≡ number (o .answer)
+  pub output : out ≡ o .output
+
+-- the number, the reported length, and the lent output
+pub record Reported {A : Type 0} (o : Outcome A) (n reported : ℕ) (out : List ℕ) : Type 0 where
+  pub answer : n ≡ number (o .answer)
+  pub written : reported ≡ o .reported
+  pub output : out ≡ o .output
 
 -- ---- an answer that is written to a lent output: the call's refusal, or 5 where the output is too short
 
@@ -60,9 +74,34 @@ testBytes key iv r tag = cond (notRecord r) 24 (number (test aes key iv (decoded
 abbrev pub recordPart : RunAnswer → RecordAnswer
 recordPart a = record { refusal = a .refusal; run = a .run }
 
--- where there is no room for the record, the ciphertext is not kept: an output of `size` bytes is zeros
-unfoldable pub keptLength : Outcome RunRecord → ℕ → ℕ
-keptLength o room = cond (tooShort room 24) 0 (o .reported)
+-- the number, the reported length, the ciphertext's output and the record's
+pub record RunOutcome : Type 0 where
+  pub refusal : ℕ
+  pub reported : ℕ
+  pub output : List ℕ
+  pub run : List ℕ
 
-unfoldable pub keptOutput : Outcome RunRecord → ℕ → ℕ → List ℕ
-keptOutput o size room = cond (tooShort room 24) (zeros size) (o .output)
+-- all four come back
+pub record ReportedRun (o : RunOutcome) (n reported : ℕ) (out run : List ℕ) : Type 0 where
+  pub answer : n ≡ o .refusal
+  pub written : reported ≡ o .reported
+  pub output : out ≡ o .output
+  pub record-output : run ≡ o .run
+
+-- The run is the last one unless `last` is 0. Its ciphertext has an output of `size` bytes, its record one of `room` bytes; where there is no
+-- room for the record, the ciphertext is not kept.
+unfoldable pub sealRunBytes : List ℕ → List ℕ → ℕ → ℕ → List ℕ → ℕ → ℕ → RunOutcome
+sealRunBytes key iv first last bytes size room =
+    let o = sealRun aes key iv first (kindOf (not (eqb last 0))) bytes size in
+    let r = lentRecord (recordPart (runAnswerOf o)) room in
+    record {
+      refusal = number (r .answer);
+      reported = cond (tooShort room 24) 0 (o .reported);
+      output = cond (tooShort room 24) (zeros size) (o .output);
+      run = r .output;
+    }
+
+-- ---- CHECK A RUN
+
+abbrev pub checkRunBytes : List ℕ → List ℕ → ℕ → List ℕ → RecordAnswer
+checkRunBytes key iv first bytes = recordAnswerOf (checkRun aes key iv first bytes)

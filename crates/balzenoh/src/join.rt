@@ -4,9 +4,9 @@ use mode::RunRecord;
 ghost use mathlib.Core.Path.{_≡_};
 ghost use Prim.Native.Nat.{_+_, _*_, _≤_};
 ghost use lib.ListN.{length, take, drop};
-ghost use Rattle.mode.specs.Calls.{joinList, recordAnswerOf, number};
+ghost use Rattle.mode.specs.Calls.{joinList, recordAnswerOf};
 ghost use Rattle.balzenoh.specs.Encoding.{decoded, recordsOf};
-ghost use Rattle.balzenoh.specs.Exports.{lentRecord, joinBytes, joinListBytes};
+ghost use Rattle.balzenoh.specs.Exports.{Returned, lentRecord, joinBytes, joinListBytes};
 
 fn join_two(left: &[u8], right: &[u8]) -> RecordAnswer
     ensures { λ a. ⌜ a ≡ joinBytes (now (left .entry)) (now (right .entry)) ⌝ }
@@ -25,8 +25,7 @@ fn join_two(left: &[u8], right: &[u8]) -> RecordAnswer
 // JOIN two records.
 #[no_mangle]
 pub extern "C" fn balzenoh_join(left: &[u8], right: &[u8], run: &mut [u8]) -> u8
-    ensures answer { λ n. ⌜ n ≡ number ((lentRecord (joinBytes (now (left .entry)) (now (right .entry))) (length (now (run .entry)))) .answer) ⌝ }
-    ensures output { λ _. ⌜ now (run .exit) ≡ (lentRecord (joinBytes (now (left .entry)) (now (right .entry))) (length (now (run .entry)))) .output ⌝ }
+    ensures { λ n. ⌜ Returned (lentRecord (joinBytes (now (left .entry)) (now (right .entry))) (length (now (run .entry)))) n (now (run .exit)) ⌝ }
 {
     let answer = join_two(left, right);
     crate::record::give(answer, run)
@@ -68,8 +67,7 @@ fn join_bytes(records: &[u8]) -> RecordAnswer
 // JOIN A LIST.
 #[no_mangle]
 pub extern "C" fn balzenoh_join_list(records: &[u8], run: &mut [u8]) -> u8
-    ensures answer { λ n. ⌜ n ≡ number ((lentRecord (joinListBytes (now (records .entry))) (length (now (run .entry)))) .answer) ⌝ }
-    ensures output { λ _. ⌜ now (run .exit) ≡ (lentRecord (joinListBytes (now (records .entry))) (length (now (run .entry)))) .output ⌝ }
+    ensures { λ n. ⌜ Returned (lentRecord (joinListBytes (now (records .entry))) (length (now (run .entry)))) n (now (run .exit)) ⌝ }
 {
     let answer = join_bytes(records);
     crate::record::give(answer, run)

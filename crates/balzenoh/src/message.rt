@@ -1,8 +1,8 @@
 // Seal a message, open a sealed record.
-ghost use mathlib.Core.Path.{_≡_};
 ghost use lib.ListN.{length as lengthOf};
 ghost use Rattle.mode.specs.Aes.{aes};
-ghost use Rattle.mode.specs.Calls.{seal, openSealed, number};
+ghost use Rattle.mode.specs.Calls.{seal, openSealed};
+ghost use Rattle.balzenoh.specs.Exports.{Reported};
 
 // SEAL a message.
 #[no_mangle]
@@ -13,9 +13,7 @@ pub extern "C" fn balzenoh_seal(
     out: &mut [u8],
     length: &mut usize,
 ) -> u8
-    ensures answer { λ n. ⌜ n ≡ number ((seal aes (now (key .entry)) (now (iv .entry)) (now (message .entry)) (lengthOf (now (out .entry)))) .answer) ⌝ }
-    ensures written { λ _. ⌜ now (length .exit) ≡ (seal aes (now (key .entry)) (now (iv .entry)) (now (message .entry)) (lengthOf (now (out .entry)))) .reported ⌝ }
-    ensures output { λ _. ⌜ now (out .exit) ≡ (seal aes (now (key .entry)) (now (iv .entry)) (now (message .entry)) (lengthOf (now (out .entry)))) .output ⌝ }
+    ensures { λ n. ⌜ Reported (seal aes (now (key .entry)) (now (iv .entry)) (now (message .entry)) (lengthOf (now (out .entry)))) n (now (length .exit)) (now (out .exit)) ⌝ }
 {
     let answer = calls::seal::seal(key, iv, message, out);
     *length = answer.length;
@@ -25,9 +23,7 @@ pub extern "C" fn balzenoh_seal(
 // OPEN a sealed record.
 #[no_mangle]
 pub extern "C" fn balzenoh_open(key: &[u8], sealed: &[u8], out: &mut [u8], length: &mut usize) -> u8
-    ensures answer { λ n. ⌜ n ≡ number ((openSealed aes (now (key .entry)) (now (sealed .entry)) (lengthOf (now (out .entry)))) .answer) ⌝ }
-    ensures written { λ _. ⌜ now (length .exit) ≡ (openSealed aes (now (key .entry)) (now (sealed .entry)) (lengthOf (now (out .entry)))) .reported ⌝ }
-    ensures output { λ _. ⌜ now (out .exit) ≡ (openSealed aes (now (key .entry)) (now (sealed .entry)) (lengthOf (now (out .entry)))) .output ⌝ }
+    ensures { λ n. ⌜ Reported (openSealed aes (now (key .entry)) (now (sealed .entry)) (lengthOf (now (out .entry)))) n (now (length .exit)) (now (out .exit)) ⌝ }
 {
     let answer = calls::open::open(key, sealed, out);
     *length = answer.length;

@@ -6,9 +6,8 @@ ghost use mathlib.Core.List.{_++_};
 ghost use Prim.Native.Nat.{_≤_};
 ghost use lib.ListN.{length, drop};
 ghost use Rattle.blocks.specs.Bytes.{zeros};
-ghost use Rattle.mode.specs.Calls.{number as numberIn};
 ghost use Rattle.balzenoh.specs.Encoding.{numberOf, numberBytes, encoded, decoded};
-ghost use Rattle.balzenoh.specs.Exports.{lentRecord};
+ghost use Rattle.balzenoh.specs.Exports.{Returned, lentRecord};
 
 // The number of four bytes, most significant first.
 fn number(a: u8, b: u8, c: u8, d: u8) -> u32
@@ -68,8 +67,7 @@ pub fn encode(run: RunRecord, out: &mut [u8])
 
 // A record that a call answers, written to a lent output.
 pub fn give(answer: RecordAnswer, out: &mut [u8]) -> u8
-    ensures answer { λ n. ⌜ n ≡ numberIn ((lentRecord answer (length (now (out .entry)))) .answer) ⌝ }
-    ensures output { λ _. ⌜ now (out .exit) ≡ (lentRecord answer (length (now (out .entry)))) .output ⌝ }
+    ensures { λ n. ⌜ Returned (lentRecord answer (length (now (out .entry)))) n (now (out .exit)) ⌝ }
 {
     blocks::block::clear(out);
     let refusal = crate::room::refusal(answer.refusal, out.len(), 24);

@@ -1,15 +1,11 @@
 // Seal a run, check a run.
 use mode::RecordAnswer;
 ghost use mathlib.Core.Path.{_≡_};
-ghost use mathlib.Core.Bool.{cond, not};
-ghost use lib.Dec.{eqb};
+ghost use mathlib.Core.Bool.{cond};
 ghost use lib.ListN.{length as lengthOf};
 ghost use Rattle.blocks.specs.Bytes.{zeros};
-ghost use Rattle.mode.specs.Aes.{aes};
 ghost use Rattle.mode.specs.Table.{tooShort};
-ghost use Rattle.mode.specs.Calls.{sealRun, checkRun, runAnswerOf, recordAnswerOf, number};
-ghost use Rattle.calls.specs.Layout.{kindOf};
-ghost use Rattle.balzenoh.specs.Exports.{lentRecord, recordPart, keptLength, keptOutput};
+ghost use Rattle.balzenoh.specs.Exports.{Returned, ReportedRun, lentRecord, checkRunBytes, sealRunBytes};
 
 // Where its record has no room, a run's ciphertext is not kept.
 fn keep(length: usize, room: usize, out: &mut [u8]) -> usize
@@ -35,10 +31,7 @@ pub extern "C" fn balzenoh_seal_run(
     length: &mut usize,
     run: &mut [u8],
 ) -> u8
-    ensures answer { λ n. ⌜ n ≡ number ((lentRecord (recordPart (runAnswerOf (sealRun aes (now (key .entry)) (now (iv .entry)) first (kindOf (not (eqb last 0))) (now (bytes .entry)) (lengthOf (now (out .entry)))))) (lengthOf (now (run .entry)))) .answer) ⌝ }
-    ensures written { λ _. ⌜ now (length .exit) ≡ keptLength (sealRun aes (now (key .entry)) (now (iv .entry)) first (kindOf (not (eqb last 0))) (now (bytes .entry)) (lengthOf (now (out .entry)))) (lengthOf (now (run .entry))) ⌝ }
-    ensures output { λ _. ⌜ now (out .exit) ≡ keptOutput (sealRun aes (now (key .entry)) (now (iv .entry)) first (kindOf (not (eqb last 0))) (now (bytes .entry)) (lengthOf (now (out .entry)))) (lengthOf (now (out .entry))) (lengthOf (now (run .entry))) ⌝ }
-    ensures record { λ _. ⌜ now (run .exit) ≡ (lentRecord (recordPart (runAnswerOf (sealRun aes (now (key .entry)) (now (iv .entry)) first (kindOf (not (eqb last 0))) (now (bytes .entry)) (lengthOf (now (out .entry)))))) (lengthOf (now (run .entry)))) .output ⌝ }
+    ensures { λ n. ⌜ ReportedRun (sealRunBytes (now (key .entry)) (now (iv .entry)) first last (now (bytes .entry)) (lengthOf (now (out .entry))) (lengthOf (now (run .entry)))) n (now (length .exit)) (now (out .exit)) (now (run .exit)) ⌝ }
 {
     let answer = calls::run::seal_run(key, iv, first, last != 0, bytes, out);
     *length = keep(answer.length, run.len(), out);
@@ -62,8 +55,7 @@ pub extern "C" fn balzenoh_check_run(
     bytes: &[u8],
     run: &mut [u8],
 ) -> u8
-    ensures answer { λ n. ⌜ n ≡ number ((lentRecord (recordAnswerOf (checkRun aes (now (key .entry)) (now (iv .entry)) first (now (bytes .entry)))) (lengthOf (now (run .entry)))) .answer) ⌝ }
-    ensures output { λ _. ⌜ now (run .exit) ≡ (lentRecord (recordAnswerOf (checkRun aes (now (key .entry)) (now (iv .entry)) first (now (bytes .entry)))) (lengthOf (now (run .entry)))) .output ⌝ }
+    ensures { λ n. ⌜ Returned (lentRecord (checkRunBytes (now (key .entry)) (now (iv .entry)) first (now (bytes .entry))) (lengthOf (now (run .entry)))) n (now (run .exit)) ⌝ }
 {
     let answer = calls::run::check_run(key, iv, first, bytes);
     crate::record::give(answer, run)

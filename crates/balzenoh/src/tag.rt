@@ -2,13 +2,11 @@
 use mode::TagAnswer;
 ghost use mathlib.Core.Path.{_≡_};
 ghost use lib.ListN.{length};
-ghost use Rattle.mode.specs.Calls.{number};
-ghost use Rattle.balzenoh.specs.Exports.{lentTag, closeBytes, testBytes};
+ghost use Rattle.balzenoh.specs.Exports.{Returned, lentTag, closeBytes, testBytes};
 
 // A tag that a call answers, written to a lent output.
 fn give(answer: TagAnswer, out: &mut [u8]) -> u8
-    ensures answer { λ n. ⌜ n ≡ number ((lentTag answer (length (now (out .entry)))) .answer) ⌝ }
-    ensures output { λ _. ⌜ now (out .exit) ≡ (lentTag answer (length (now (out .entry)))) .output ⌝ }
+    ensures { λ n. ⌜ Returned (lentTag answer (length (now (out .entry)))) n (now (out .exit)) ⌝ }
 {
     blocks::block::clear(out);
     let refusal = crate::room::refusal(answer.refusal, out.len(), 16);
@@ -36,8 +34,7 @@ fn close_record(key: &[u8], iv: &[u8], run: &[u8]) -> TagAnswer
 // CLOSE a record into its tag.
 #[no_mangle]
 pub extern "C" fn balzenoh_close(key: &[u8], iv: &[u8], run: &[u8], tag: &mut [u8]) -> u8
-    ensures answer { λ n. ⌜ n ≡ number ((lentTag (closeBytes (now (key .entry)) (now (iv .entry)) (now (run .entry))) (length (now (tag .entry)))) .answer) ⌝ }
-    ensures output { λ _. ⌜ now (tag .exit) ≡ (lentTag (closeBytes (now (key .entry)) (now (iv .entry)) (now (run .entry))) (length (now (tag .entry)))) .output ⌝ }
+    ensures { λ n. ⌜ Returned (lentTag (closeBytes (now (key .entry)) (now (iv .entry)) (now (run .entry))) (length (now (tag .entry)))) n (now (tag .exit)) ⌝ }
 {
     let answer = close_record(key, iv, run);
     give(answer, tag)

@@ -14,7 +14,7 @@ use Rattle.mode.specs.declared.RunRecord.{RunRecord}
 use Rattle.mode.specs.declared.RecordAnswer.{RecordAnswer}
 use Rattle.mode.specs.Table.{decide, limit, beyond, anyBeyond, apart, none}
 use Rattle.mode.specs.Calls.{joined, joinedOnto, joinedAll, joinTwo, joinList, number, orElse, recordAnswerOf, refusedRecord}
-use Rattle.record_list.specs.Onto.{alone, ontoOf, ontoAll}
+use Rattle.record_list.specs.Onto.{alone, unlessBeyond, ontoOf, ontoAll}
 
 -- ---- a list, by the answer before it
 
@@ -22,15 +22,11 @@ use Rattle.record_list.specs.Onto.{alone, ontoOf, ontoAll}
 after-four : (rs : List RunRecord) → ontoAll (refusedRecord 4) rs ≡ refusedRecord 4
 unfolding ontoAll ontoOf
 after-four [] = refl
-after-four (r ∷ rs) = by (beyond (r .first) (r .count)) (after-four rs)
-  where
-    by : (b : Bool) → ontoAll (refusedRecord 4) rs ≡ refusedRecord 4 → ontoAll (cond b (refusedRecord 4) (refusedRecord 4)) rs ≡ refusedRecord 4
-    by true others = others
-    by false others = others
+after-four (r ∷ rs) = after-four rs
 
 -- 8 stands, unless a record is beyond the limit
 after-eight : (rs : List RunRecord) → ontoAll (refusedRecord 8) rs ≡ cond (anyBeyond rs) (refusedRecord 4) (refusedRecord 8)
-unfolding ontoAll ontoOf anyBeyond
+unfolding ontoAll ontoOf unlessBeyond anyBeyond
 after-eight [] = refl
 after-eight (r ∷ rs) = by (beyond (r .first) (r .count)) (after-eight rs)
   where
@@ -54,7 +50,7 @@ abbrev After : RunRecord → List RunRecord → Type 0
 After l rs = ontoAll (alone l) rs ≡ recordAnswerOf (decide ((4, anyBeyond rs) ∷ (8, apart (l ∷ rs)) ∷ []) (joinedOnto l rs))
 
 after-given : (l : RunRecord) (rs : List RunRecord) → l .first + l .count ≤ limit → After l rs
-unfolding ontoAll ontoOf anyBeyond beyond apart joinTwo joinedOnto decide recordAnswerOf number orElse
+unfolding ontoAll ontoOf unlessBeyond anyBeyond beyond apart joinTwo joinedOnto decide recordAnswerOf number orElse
 after-given l [] h = refl
 after-given l (r ∷ rs) h =
     rw (le-ltb limit (l .first + l .count) h)
@@ -79,7 +75,7 @@ after-given l (r ∷ rs) h =
 
 -- THE LAW: from no record, the answer to the list
 pub list-joined : (rs : List RunRecord) → ontoAll (refusedRecord 9) rs ≡ recordAnswerOf (joinList rs)
-unfolding ontoAll ontoOf anyBeyond beyond apart none joinList joinedAll decide recordAnswerOf number orElse
+unfolding ontoAll ontoOf unlessBeyond anyBeyond beyond apart none joinList joinedAll decide recordAnswerOf number orElse
 list-joined [] = refl
 list-joined (r ∷ rs) = by (ltb limit (r .first + r .count)) refl
   where

@@ -3,10 +3,21 @@ use mode::RecordAnswer;
 use mode::RunRecord;
 ghost use mathlib.Core.Path.{_≡_};
 ghost use Rattle.mode.specs.Calls.{joinList, recordAnswerOf};
-ghost use Rattle.record_list.specs.Onto.{ontoOf};
+ghost use Rattle.record_list.specs.Onto.{unlessBeyond, ontoOf};
+
+// The answer, or 4 where this record is beyond the limit.
+fn unless_beyond(next: RunRecord, answer: RecordAnswer) -> RecordAnswer
+    ensures { λ a. ⌜ a ≡ unlessBeyond next answer ⌝ }
+{
+    let end = next.first as u64 + next.count as u64;
+    if mode::LIMIT < end {
+        return mode::refused(4);
+    }
+    answer
+}
 
 // One record more: `so_far` is the answer to the records before it, with refusal 9 where there are none yet. Row 4 of this record
-// beats row 8 of an earlier pair.
+// beats row 8 of an earlier pair. Any refusal but 8 and 9 stands as it is.
 pub fn onto(so_far: RecordAnswer, next: RunRecord) -> RecordAnswer
     ensures { λ a. ⌜ a ≡ ontoOf «so_far» next ⌝ }
 {
@@ -15,20 +26,17 @@ pub fn onto(so_far: RecordAnswer, next: RunRecord) -> RecordAnswer
         let run = so_far.run;
         return run.join(next);
     }
-    let end = next.first as u64 + next.count as u64;
-    if mode::LIMIT < end {
-        return mode::refused(4);
-    }
     if refusal == 8 {
-        return mode::refused(8);
+        return unless_beyond(next, mode::refused(8));
     }
     if refusal == 9 {
-        return RecordAnswer {
+        let alone = RecordAnswer {
             refusal: 0,
             run: next,
         };
+        return unless_beyond(next, alone);
     }
-    mode::refused(4)
+    mode::refused(refusal)
 }
 
 // THE CALL: a lent list joined, in message order.

@@ -1,11 +1,5 @@
 -- The record, lent.
 use borrow.Author.Needs.{needs}
-use mathlib.Core.Path.{ap, _∙_}
-use mathlib.Core.List.{List}
-use lib.ListN.{length}
-use Rattle.mode.specs.declared.RecordAnswer.{RecordAnswer}
-use Rattle.mode.specs.Calls.{number}
-use Rattle.balzenoh.specs.Exports.{lentRecord}
 use Rattle.balzenoh.proofs.join.balzenoh_join.Statement.{statement}
 use Rattle.balzenoh.proofs.join.balzenoh_join.Tie as tie
 
@@ -19,11 +13,7 @@ same-length : tie.Need-same-length
 same-length c = search needs
 
 returns : tie.Need-returns
-returns c =
-    let room = length (c .before .before .before .before .before .before .before .before .args .run .now) in
-    let x = c .before .before .give .ensures in
-    let e = c .before .before .before .before .join-two .ensures in
-    (x .0 ∙ ap (λ (a : RecordAnswer). number ((lentRecord a room) .answer)) e, x .1 ∙ ap (λ (a : RecordAnswer). (lentRecord a room) .output) e)
+returns c = rw (c .before .before .before .before .join-two .ensures) at (c .before .before .give .ensures)
 
 pub balzenoh-join-spec : {M : Type 1} → statement M
 balzenoh-join-spec = tie.close (tie.spec join-two-requires give-requires same-length returns)

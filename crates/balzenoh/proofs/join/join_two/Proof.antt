@@ -1,6 +1,6 @@
 -- Not records, or joined.
 use borrow.Author.Needs.{needs}
-use mathlib.Core.Path.{refl, ap₂, _∙_}
+use mathlib.Core.Path.{ap₂, _∙_}
 use Rattle.mode.specs.declared.RunRecord.{RunRecord}
 use Rattle.mode.specs.Calls.{joinTwo, recordAnswerOf}
 use Rattle.balzenoh.specs.Exports.{joinBytes}

@@ -14,7 +14,7 @@ same-length c = search needs
 
 returns : tie.Need-returns
 unfolding writtenOf
-returns c = (ap (λ (w : Written). w .refusal) (c .before .before .jump .ensures .0), c .before .before .jump .ensures .1)
+returns c = let x = c .before .before .jump .ensures in record { answer = ap (λ (w : Written). w .refusal) (x .0); output = x .1 }
 
 pub balzenoh-jump-spec : {M : Type 1} → statement M
 balzenoh-jump-spec = tie.close (tie.spec jump-requires same-length returns)

@@ -14,7 +14,7 @@ same-length c = search needs
 
 returns : tie.Need-returns
 unfolding writtenOf
-returns c = let x = c .before .before .«open» .ensures in (ap (λ (w : Written). w .refusal) (x .0), (ap (λ (w : Written). w .length) (x .0), x .1))
+returns c = let x = c .before .before .«open» .ensures in record { answer = ap (λ (w : Written). w .refusal) (x .0); written = ap (λ (w : Written). w .length) (x .0); output = x .1 }
 
 pub balzenoh-open-spec : {M : Type 1} → statement M
 balzenoh-open-spec = tie.close (tie.spec open-requires same-length returns)

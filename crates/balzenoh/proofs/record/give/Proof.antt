@@ -2,10 +2,9 @@
 use borrow.Author.Needs.{needs}
 use mathlib.Core.Path.{_≡_, sym, ap, _∙_}
 use mathlib.Core.List.{List, _++_}
-use Prim.Native.Nat.{ℕ, _-_}
+use Prim.Native.Nat.{ℕ}
 use native.Mathlib.Omega.{arith}
 use lib.ListN.{length, drop}
-use Rattle.blocks.specs.Bytes.{zeros}
 use Rattle.mode.specs.Table.{firstRow}
 use Rattle.blocks.proofs.Zeros.{drop-zeros}
 use Rattle.balzenoh.specs.Encoding.{encoded}
@@ -36,8 +35,7 @@ same-length c = search needs
 returns : tie.Need-returns
 returns c =
     let a = c .before .before .before .before .before .before .before .args in
-    let x = lent-refused (a .answer .refusal) 24 (encoded (a .answer .run)) (length (a .out .now)) (c .before .refusal .result) (at-room (c .before)) (c .if1 .taken) in
-    (x .0, c .before .before .before .before .clear .ensures ∙ x .1)
+    lent-refused (a .answer .refusal) 24 (encoded (a .answer .run)) (length (a .out .now)) (c .before .refusal .result) (c .before .before .before .before .clear .last .0) (at-room (c .before)) (c .if1 .taken) (c .before .before .before .before .clear .ensures)
 
 encode-requires : tie.Need-encode-requires
 encode-requires c κs =
@@ -51,8 +49,8 @@ returns-2 : tie.Need-returns-2
 returns-2 c =
     let a = c .before .before .before .before .before .before .before .before .before .before .before .before .args in
     let room = length (a .out .now) in
-    let x = lent-given (a .answer .refusal) 24 (encoded (a .answer .run)) room (long (c .before .before .before .before .before .before .before .before .before .before .before .before)) (sym (at-room (c .before .before .before .before .before .before)) ∙ c .before .before .before .before .before .if1 .left) in
-    (x .0, c .before .before .encode .ensures ∙ ap (λ (z : List ℕ). encoded (a .answer .run) ++ drop 24 z) (c .before .before .before .before .before .before .before .before .before .clear .ensures) ∙ ap (λ (z : List ℕ). encoded (a .answer .run) ++ z) (drop-zeros 24 room) ∙ x .1)
+    let none = sym (at-room (c .before .before .before .before .before .before)) ∙ c .before .before .before .before .before .if1 .left in
+    lent-given (a .answer .refusal) 24 (encoded (a .answer .run)) room (c .before .before .encode .last .1 .0) (long (c .before .before .before .before .before .before .before .before .before .before .before .before)) none (c .before .before .encode .ensures ∙ ap (λ (z : List ℕ). encoded (a .answer .run) ++ drop 24 z) (c .before .before .before .before .before .before .before .before .before .clear .ensures) ∙ ap (λ (z : List ℕ). encoded (a .answer .run) ++ z) (drop-zeros 24 room))
 
 pub give-spec : {M : Type 1} → statement M
 give-spec =

@@ -9,7 +9,7 @@ use Rattle.blocks.specs.Bytes.{zeros}
 use Rattle.mode.specs.declared.RunAnswer.{RunAnswer}
 use Rattle.mode.specs.Table.{tooShort}
 use Rattle.mode.specs.Calls.{number, runAnswerOf}
-use Rattle.balzenoh.specs.Exports.{lentRecord, recordPart, keptLength, keptOutput}
+use Rattle.balzenoh.specs.Exports.{lentRecord, recordPart, sealRunBytes}
 use Rattle.balzenoh.proofs.run.balzenoh_seal_run.Statement.{statement}
 use Rattle.balzenoh.proofs.run.balzenoh_seal_run.Tie as tie
 
@@ -29,18 +29,18 @@ same-length-2 : tie.Need-same-length-2
 same-length-2 c = search needs
 
 returns : tie.Need-returns
-unfolding runAnswerOf keptLength keptOutput
+unfolding runAnswerOf sealRunBytes
 returns c =
     let room = length (c .before .before .before .before .before .before .before .before .before .before .before .before .before .before .before .before .before .before .args .run .now) in
     let x = c .before .before .give .ensures in
     let y = c .before .before .before .before .before .before .before .keep .ensures in
-    let z = c .before .before .before .before .before .before .before .before .before .before .before .seal-run .ensures in (
-      x .0 ∙ ap (λ (a : RunAnswer). number ((lentRecord (recordPart a) room) .answer)) (z .0),
-      (
-        y .0 ∙ ap (λ (a : RunAnswer). cond (tooShort room 24) 0 (a .length)) (z .0),
-        (y .1 ∙ ap₂ (λ (n : ℕ) (o : List ℕ). cond (tooShort room 24) (zeros n) o) (c .before .before .before .before .before .before .before .before .before .before .before .seal-run .kept .1 .1 .1 .1 .1 .0) (z .1), x .1 ∙ ap (λ (a : RunAnswer). (lentRecord (recordPart a) room) .output) (z .0)),
-      ),
-    )
+    let z = c .before .before .before .before .before .before .before .before .before .before .before .seal-run .ensures in
+    record {
+      answer = x .answer ∙ ap (λ (a : RunAnswer). number ((lentRecord (recordPart a) room) .answer)) (z .0);
+      written = y .0 ∙ ap (λ (a : RunAnswer). cond (tooShort room 24) 0 (a .length)) (z .0);
+      output = y .1 ∙ ap₂ (λ (n : ℕ) (o : List ℕ). cond (tooShort room 24) (zeros n) o) (c .before .before .before .before .before .before .before .before .before .before .before .seal-run .kept .1 .1 .1 .1 .1 .0) (z .1);
+      record-output = x .output ∙ ap (λ (a : RunAnswer). (lentRecord (recordPart a) room) .output) (z .0);
+    }
 
 pub balzenoh-seal-run-spec : {M : Type 1} → statement M
 balzenoh-seal-run-spec =

@@ -1,11 +1,9 @@
 -- Refused, or stored in front of zeros.
 use borrow.Author.Needs.{needs}
 use mathlib.Core.Path.{_≡_, sym, ap, _∙_}
-use mathlib.Core.List.{List, _++_}
-use Prim.Native.Nat.{ℕ, _-_}
+use Prim.Native.Nat.{ℕ}
 use native.Mathlib.Omega.{arith}
-use lib.ListN.{length, drop}
-use Rattle.blocks.specs.Bytes.{zeros}
+use lib.ListN.{length}
 use Rattle.mode.specs.Table.{firstRow}
 use Rattle.calls.proofs.Outputs.{stored-front}
 use Rattle.balzenoh.specs.Exports.{lentRows}
@@ -34,8 +32,7 @@ same-length c = search needs
 returns : tie.Need-returns
 returns c =
     let a = c .before .before .before .before .before .before .before .args in
-    let x = lent-refused (a .answer .refusal) 16 (a .answer .tag) (length (a .out .now)) (c .before .refusal .result) (at-room (c .before)) (c .if1 .taken) in
-    (x .0, c .before .before .before .before .clear .ensures ∙ x .1)
+    lent-refused (a .answer .refusal) 16 (a .answer .tag) (length (a .out .now)) (c .before .refusal .result) (c .before .before .before .before .clear .last .0) (at-room (c .before)) (c .if1 .taken) (c .before .before .before .before .clear .ensures)
 
 store-requires : tie.Need-store-requires
 store-requires c κs =
@@ -49,8 +46,8 @@ returns-2 : tie.Need-returns-2
 returns-2 c =
     let a = c .before .before .before .before .before .before .before .before .before .before .before .before .args in
     let room = length (a .out .now) in
-    let x = lent-given (a .answer .refusal) 16 (a .answer .tag) room (long (c .before .before .before .before .before .before .before .before .before .before .before .before)) (sym (at-room (c .before .before .before .before .before .before)) ∙ c .before .before .before .before .before .if1 .left) in
-    (x .0, stored-front (c .before .before .before .before .before .before .before .before .before .clear .last .0) (c .before .before .store .last .0) (a .answer .tag) room (room-there (a .answer .refusal) room 16 (sym (at-room (c .before .before .before .before .before .before)) ∙ c .before .before .before .before .before .if1 .left)) (c .before .before .before .before .before .before .before .before .before .clear .ensures) (c .before .before .store .ensures) ∙ x .1)
+    let none = sym (at-room (c .before .before .before .before .before .before)) ∙ c .before .before .before .before .before .if1 .left in
+    lent-given (a .answer .refusal) 16 (a .answer .tag) room (c .before .before .store .last .0) (long (c .before .before .before .before .before .before .before .before .before .before .before .before)) none (stored-front (c .before .before .before .before .before .before .before .before .before .clear .last .0) (c .before .before .store .last .0) (a .answer .tag) room (room-there (a .answer .refusal) room 16 none) (c .before .before .before .before .before .before .before .before .before .clear .ensures) (c .before .before .store .ensures))
 
 pub give-spec : {M : Type 1} → statement M
 give-spec =

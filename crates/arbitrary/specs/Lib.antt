@@ -1,0 +1,2 @@
+-- Returned: what comes back of a call, as equations.
+pub mod Returned

@@ -1,0 +1,100 @@
+// Lists of none to three run records, lent to the join of a list: lists that join, and the table's rows for a list. Each line says how
+// many cases of a group agreed.
+use case_tools::bytes::blank;
+use case_tools::bytes::gives_record;
+use case_tools::bytes::one_if;
+use mode::RecordAnswer;
+use mode::RunRecord;
+ghost use mathlib.Core.Path.{_≡_};
+ghost use Prim.Native.Nat.{_≤_};
+ghost use lib.ListN.{take};
+ghost use Rattle.mode.specs.Calls.{joinList, recordAnswerOf};
+
+// The first n of three records, lent as a list and joined.
+fn join(records: [RunRecord; 3], n: usize) -> RecordAnswer
+    requires { ⌜ n ≤ 3 ⌝ }
+    ensures { λ a. ⌜ a ≡ recordAnswerOf (joinList (take n records)) ⌝ }
+{
+    record_list::join_list(&records[0..n])
+}
+
+// A record whose pre-authenticator has one byte 16 times.
+fn run(first: u32, count: u32, byte: u8) -> RunRecord {
+    RunRecord {
+        first,
+        count,
+        preauthenticator: [byte; 16],
+    }
+}
+
+fn gives(records: [RunRecord; 3], n: usize, expected: RunRecord) -> bool
+    requires { ⌜ n ≤ 3 ⌝ }
+{
+    let answer = join(records, n);
+    gives_record(answer, expected)
+}
+
+// The number, and the blank record beside it.
+fn refuses(records: [RunRecord; 3], n: usize, refusal: u8) -> bool
+    requires { ⌜ n ≤ 3 ⌝ }
+{
+    let answer = join(records, n);
+    answer.refusal == refusal && blank(answer.run)
+}
+
+// How many agreed.
+fn agreed(a: bool, b: bool, c: bool, d: bool) -> usize {
+    let i = one_if(a);
+    let j = one_if(b);
+    let k = one_if(c);
+    let l = one_if(d);
+    i + j + k + l
+}
+
+// One record, two and three; a full list with an empty run behind it.
+fn joined() -> usize {
+    let records = [run(0, 1, 1), run(1, 2, 2), run(3, 1, 3)];
+    let one = gives(records, 1, run(0, 1, 1));
+    let two = gives(records, 2, run(0, 3, 6));
+    let three = gives(records, 3, run(0, 4, 15));
+    let full = gives(
+        [run(0, 4000, 7), run(4000, 0, 0), run(4000, 1, 1)],
+        2,
+        run(0, 4000, 7),
+    );
+    agreed(one, two, three, full)
+}
+
+// 9: no record, before records that join, that do not adjoin, that are beyond the limit, and that are blank.
+fn none() -> usize {
+    let joins = refuses([run(0, 1, 1), run(1, 2, 2), run(3, 1, 3)], 0, 9);
+    let apart = refuses([run(0, 1, 1), run(5, 1, 2), run(9, 1, 3)], 0, 9);
+    let beyond = refuses([run(4000, 1, 1), run(4001, 1, 2), run(4002, 1, 3)], 0, 9);
+    let blank = refuses([run(0, 0, 0), run(0, 0, 0), run(0, 0, 0)], 0, 9);
+    agreed(joins, apart, beyond, blank)
+}
+
+// 8: a gap, an overlap, the wrong order, a gap behind a good pair.
+fn apart() -> usize {
+    let gap = refuses([run(0, 1, 1), run(2, 1, 2), run(3, 1, 3)], 3, 8);
+    let overlap = refuses([run(0, 2, 1), run(1, 2, 2), run(3, 1, 3)], 2, 8);
+    let order = refuses([run(1, 1, 1), run(0, 1, 2), run(2, 1, 3)], 3, 8);
+    let later = refuses([run(0, 1, 1), run(1, 1, 2), run(3, 1, 3)], 3, 8);
+    agreed(gap, overlap, order, later)
+}
+
+// 4: alone; the first of three; the last, behind a gap, which 4 beats; numbers whose sum leaves 32 bits.
+fn beyond() -> usize {
+    let alone = refuses([run(1, 4000, 1), run(0, 1, 2), run(1, 1, 3)], 1, 4);
+    let first = refuses([run(4000, 1, 1), run(0, 1, 2), run(5, 1, 3)], 3, 4);
+    let last = refuses([run(0, 1, 1), run(5, 1, 2), run(4000, 1, 3)], 3, 4);
+    let huge = refuses([run(0, 1, 1), run(4294967295, 1, 2), run(0, 1, 3)], 2, 4);
+    agreed(alone, first, last, huge)
+}
+
+fn main() {
+    case_tools::report(b"lent lists that join", joined(), 4);
+    case_tools::report(b"refusal 9 of a lent list", none(), 4);
+    case_tools::report(b"refusal 8 of a lent list", apart(), 4);
+    case_tools::report(b"refusal 4 of a lent list", beyond(), 4);
+}
