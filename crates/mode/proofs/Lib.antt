@@ -1,18 +1,21 @@
+-- Aes: AES-128 is a lawful cipher, and FIPS 197's. Rows to Decisions: the table decides a call. Laws to Records: the formulas. Demand2, Demand3,
+-- NoDifference: the arguments. Demands: what is proved, a line each. Toy to Pinned: the statements are neither empty nor loose, and may not
+-- shrink.
 pub mod Aes
 pub mod Rows
 pub mod Answers
 pub mod Passed
 pub mod Decisions
-pub mod Join
 pub mod Laws
 pub mod Blocks
+pub mod Bytes
 pub mod Runs
 pub mod SealedLength
 pub mod Segments
-pub mod Demand3
-pub mod Bytes
-pub mod Demand2
+pub mod Join
 pub mod Records
+pub mod Demand2
+pub mod Demand3
 pub mod NoDifference
 pub mod Demands
 pub mod Toy
