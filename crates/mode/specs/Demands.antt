@@ -108,7 +108,8 @@ pub record DecidedInto {A : Type 0} (rows : List (ℕ × Bool)) (o : Outcome A) 
   pub one-holds : (n : ℕ) → Decides rows n → Refuses o n room
 
 module _ (c : Cipher) where
-  -- step 2 over a run that starts at block `first`, whose mask is the start mask jumped by `first`
+  -- Over the formulas of Mode, not by the helpers that the outcome functions are written with: step 2 over a run that starts at block
+  -- `first`, whose mask is the start mask jumped by `first`.
   abbrev pub stepTwo : Source → List ℕ → List ℕ → ℕ → List (List ℕ) → Pass
   stepTwo s key iv first blocks = pass c s key blocks (jump first (startMask c key iv)) zeroBlock
 
