@@ -198,7 +198,7 @@ fn in_one_run(text: &[u8], run: RunRecord) -> usize
 }
 
 // The last ciphertext block, the pre-authenticator and the tag are those of vectors/make-mode-vectors.
-fn as_elsewhere(text: &[u8], run: RunRecord) -> usize
+fn as_reference(text: &[u8], run: RunRecord) -> usize
     requires { ⌜ length (now text) ≡ 64016 ⌝ }
     ensures { λ r. ⌜ r ≤ 4 ⌝ }
 {
@@ -213,5 +213,5 @@ fn as_elsewhere(text: &[u8], run: RunRecord) -> usize
 pub fn long_chain() -> usize {
     let mut text = [0u8; 64016];
     let run = chain(&mut text);
-    as_elsewhere(&text, run) + in_one_run(&text, run)
+    as_reference(&text, run) + in_one_run(&text, run)
 }

@@ -1,4 +1,4 @@
-// Records that another program sealed (docs/CASES.md), a line each: key, IV, message and record in hexadecimal digits, a space or the
+// Records that a second program sealed (docs/CASES.md), a line each: key, IV, message and record in hexadecimal digits, a space or the
 // line's end after each. Line n has a message of n bytes.
 ghost use Prim.Native.Nat.{_+_, _*_, _/_, _<_, _≤_};
 ghost use lib.ListN.{length};
