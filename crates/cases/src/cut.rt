@@ -1,5 +1,6 @@
 // Blocks cut into runs at random places, in a random order, and their records joined two at a time in a random order.
 ghost use Prim.Native.Nat.{_<_, _≤_};
+use case_tools::bytes::NO_ANSWER;
 use case_tools::random::Random;
 use mode::RecordAnswer;
 use mode::RunAnswer;
@@ -109,29 +110,29 @@ fn span_of(cut: Cut, i: usize, size: usize, padded: bool) -> Span
     }
 }
 
-// A number that no call refuses with.
-const NO_RUN: u8 = 255;
+// Where a run was not sealed as it should be.
+fn no_run() -> RunAnswer {
+    RunAnswer {
+        refusal: NO_ANSWER,
+        length: 0,
+        run: no_record(),
+    }
+}
 
-// Seals a run into its own part of an output.
+// Seals a run into its own part of an output, which it fills.
 fn seal_span(key: [u8; 16], iv: [u8; 16], s: Span, message: &[u8], out: &mut [u8]) -> RunAnswer {
     let from = s.from;
     let to = s.to;
     let stop = s.stop;
     if to < from || message.len() < to || stop < from || out.len() < stop {
-        return RunAnswer {
-            refusal: NO_RUN,
-            length: 0,
-            run: no_record(),
-        };
+        return no_run();
     }
-    calls::run::seal_run(
-        &key,
-        &iv,
-        s.first,
-        s.last,
-        &message[from..to],
-        &mut out[from..stop],
-    )
+    let part = &mut out[from..stop];
+    let a = calls::run::seal_run(&key, &iv, s.first, s.last, &message[from..to], part);
+    if a.length != stop - from {
+        return no_run();
+    }
+    a
 }
 
 // Checks a run of ciphertext.
@@ -139,7 +140,7 @@ fn check_span(key: [u8; 16], iv: [u8; 16], s: Span, text: &[u8]) -> RecordAnswer
     let from = s.from;
     let to = s.to;
     if to < from || text.len() < to {
-        return mode::refused(NO_RUN);
+        return mode::refused(NO_ANSWER);
     }
     calls::run::check_run(&key, &iv, s.first, &text[from..to])
 }
@@ -247,7 +248,7 @@ pub fn seal_in_runs(
 ) -> RecordAnswer {
     let each = seal_each(key, iv, cut, message, out);
     if !each.taken {
-        return mode::refused(NO_RUN);
+        return mode::refused(NO_ANSWER);
     }
     let records = each.records;
     join_all(cut.random, records, cut.runs)
@@ -257,7 +258,7 @@ pub fn seal_in_runs(
 pub fn check_in_runs(key: [u8; 16], iv: [u8; 16], cut: Cut, text: &[u8]) -> RecordAnswer {
     let each = check_each(key, iv, cut, text);
     if !each.taken {
-        return mode::refused(NO_RUN);
+        return mode::refused(NO_ANSWER);
     }
     let records = each.records;
     join_all(cut.random, records, cut.runs)

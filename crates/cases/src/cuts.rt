@@ -38,6 +38,7 @@ fn seals(
     ensures { λ r. ⌜ r ≤ 1 ⌝ }
 {
     let mut out = [0u8; 6144];
+    noise(&mut out);
     if 6144 < message.len() {
         return 0;
     }

@@ -3,6 +3,7 @@
 use case_tools::report;
 
 mod paper; // paper.rt: the vectors of the mode's paper
+mod sums; // sums.rt: what the paper prints between the others
 mod reference; // reference.rt: records that a second program sealed
 mod cut; // cut.rt: blocks cut into runs
 mod cuts; // cuts.rt: seeded messages, whole and in runs
@@ -16,6 +17,7 @@ fn report_paper() {
     report(b"paper, both blocks in one run", paper::both_blocks(), 5);
     report(b"paper's rule, 4000 blocks", paper::long_chain(), 7);
     report(b"paper, masks", paper::masks(), 3);
+    report(b"paper, sums and encryptions", sums::printed(), 7);
     report(b"jumps of 1", paper::jumps_of_one(), 3);
     report(b"start mask of zero", paper::zero_start_mask(), 5);
 }
@@ -50,7 +52,7 @@ fn report_cuts() {
 }
 
 fn report_damage() {
-    report(b"damage, the record itself", damage::undamaged(), 2);
+    report(b"damage, the record itself", damage::undamaged(), 3);
     report(b"damage, each bit, opened", damage::opened(), 512);
     report(b"damage, each bit, tested", damage::tested(), 512);
     report(b"damage, blocks rearranged", damage::rearranged(), 3);

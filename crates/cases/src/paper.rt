@@ -5,13 +5,15 @@ ghost use lib.ListN.{length};
 use case_tools::bytes::answered;
 use case_tools::bytes::gives_record;
 use case_tools::bytes::gives_tag;
+use case_tools::bytes::of_run;
 use case_tools::bytes::one_if;
 use case_tools::bytes::same_record;
+use case_tools::bytes::written;
 use case_tools::hex::block;
 use case_tools::paper::iv;
 use case_tools::paper::key;
+use case_tools::random::noise;
 use mode::RunRecord;
-use mode::Written;
 
 // ---- values as printed
 
@@ -21,13 +23,10 @@ fn seals(iv: [u8; 16], text: &[u8], cipher: &[u8], run: RunRecord) -> usize
 {
     let key = key();
     let mut out = [0u8; 65536];
-    case_tools::random::noise(&mut out);
+    noise(&mut out);
     let a = calls::run::seal_run(&key, &iv, run.first, false, text, &mut out);
-    let w = Written {
-        refusal: a.refusal,
-        length: a.length,
-    };
-    one_if(answered(w, 0, cipher, &out)) + one_if(same_record(a.run, run))
+    one_if(answered(of_run(a), 0, cipher, &out))
+        + one_if((a.refusal == 0) & same_record(a.run, run))
 }
 
 // Checking the ciphertext gives the record.
@@ -107,10 +106,15 @@ pub fn zero_start_mask() -> usize {
 
 // ---- masks
 
-fn jumped(mask: [u8; 16], distance: u32) -> [u8; 16] {
-    let mut out = [0u8; 16];
-    calls::mask::jump(&mask, distance, &mut out);
-    out
+// A mask jumped. Where the answer is not as it should be, the mask is zero, and so is each that it jumps to.
+pub fn jumped(mask: [u8; 16], distance: u32) -> [u8; 16] {
+    let mut out = [0u8; 32];
+    noise(&mut out);
+    let w = calls::mask::jump(&mask, distance, &mut out);
+    if written(w, 0, 16, &out) {
+        return blocks::block::load(&out, 0);
+    }
+    [0u8; 16]
 }
 
 // 249 jumps of 4,000 blocks.
@@ -149,35 +153,55 @@ pub fn jumps_of_one() -> usize {
 // ---- the second vector's rule over 4,000 blocks
 
 // The last ciphertext block, which is the next block of the message, and the record of all blocks so far.
-struct Link {
-    block: [u8; 16],
-    run: RunRecord,
+pub struct Link {
+    pub block: [u8; 16],
+    pub run: RunRecord,
 }
 
-// One block sealed and joined to those before it. Where a call is refused, the block is zero.
+// One block sealed and joined to those before it. Where an answer is not as it should be, block and record are zero.
 fn next_link(before: Link, number: u32) -> Link {
     let key = key();
     let iv = iv();
-    let block = before.block;
+    let text = before.block;
     let left = before.run;
-    let mut out = [0u8; 16];
-    let sealed = calls::run::seal_run(&key, &iv, number, false, &block, &mut out);
+    let mut out = [0u8; 32];
+    noise(&mut out);
+    let sealed = calls::run::seal_run(&key, &iv, number, false, &text, &mut out);
     let right = sealed.run;
     let joined = left.join(right);
+    if !written(of_run(sealed), 0, 16, &out) || joined.refusal != 0 {
+        return Link {
+            block: [0u8; 16],
+            run: record(0, 0, [0u8; 16]),
+        };
+    }
     let run = joined.run;
-    Link { block: out, run }
+    Link {
+        block: blocks::block::load(&out, 0),
+        run,
+    }
+}
+
+// Block m1, with none before it.
+fn no_link() -> Link {
+    Link {
+        block: block(b"00112233445566778899AABBCCDDEEFF"),
+        run: record(0, 0, [0u8; 16]),
+    }
+}
+
+// Block c1, and the record that holds A1, as the calls give them.
+pub fn first_link() -> Link {
+    next_link(no_link(), 0)
 }
 
 // The 4,001 blocks m1, c1, c2, .. in order, and the record of all.
 fn chain(text: &mut [u8]) -> RunRecord
     requires { ⌜ length (now text) ≡ 64016 ⌝ }
 {
-    let m1 = block(b"00112233445566778899AABBCCDDEEFF");
+    let mut last = no_link();
+    let m1 = last.block;
     blocks::block::store(text, 0, m1);
-    let mut last = Link {
-        block: m1,
-        run: record(0, 0, [0u8; 16]),
-    };
     let mut n: u32 = 0;
     while n < 4000 {
         let next = next_link(last, n);
