@@ -6,7 +6,7 @@ use crate::reference;
 use case_tools::bytes::NO_ANSWER;
 use case_tools::bytes::flip;
 use case_tools::bytes::one_if;
-use case_tools::hex::block;
+use case_tools::hex::bytes_at;
 use case_tools::open::answers;
 use case_tools::paper;
 use mode::RecordAnswer;
@@ -14,10 +14,12 @@ use mode::RecordAnswer;
 // The record of a message of 20 bytes, as vectors/make-mode-vectors seals it: IV, two blocks, tag.
 fn sealed() -> [u8; 64] {
     let mut r = [0u8; 64];
-    blocks::block::store(&mut r, 0, paper::iv());
-    blocks::block::store(&mut r, 16, block(b"15E1DB963E0C1EC0B281E610483D1D69"));
-    blocks::block::store(&mut r, 32, block(b"F2BC1D6DC4A61430FAC5F6EEAB692DB8"));
-    blocks::block::store(&mut r, 48, block(b"F80C6DD44A859AE2B6EBFDB7F04CB5AD"));
+    bytes_at(
+        b"0123456789ABCDEF0123456789ABCDEF15E1DB963E0C1EC0B281E610483D1D69F2BC1D6DC4A61430FAC5F6EEAB692DB8F80C6DD44A859AE2B6EBFDB7F04CB5AD",
+        0,
+        64,
+        &mut r,
+    );
     r
 }
 
