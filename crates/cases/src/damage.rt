@@ -1,6 +1,6 @@
 // A sealed record with each of its bits flipped in turn.
 ghost use mathlib.Core.Path.{_≡_};
-ghost use Prim.Native.Nat.{_+_, _≤_};
+ghost use Prim.Native.Nat.{_≤_};
 ghost use lib.ListN.{length};
 use crate::reference;
 use case_tools::bytes::NO_ANSWER;
@@ -73,19 +73,12 @@ fn test(key: [u8; 16], sealed: &[u8]) -> u8
     calls::record::test(&key, &iv, joined.run, &tag)
 }
 
-fn undamaged_tested() -> usize
-    ensures { λ r. ⌜ r ≤ 1 ⌝ }
-{
-    let whole = sealed();
-    one_if(test(paper::key(), &whole) == 0)
-}
-
 // The record as it is: sealed, opened and tested.
 pub fn undamaged() -> usize {
     let whole = sealed();
     reference::seals(paper::key(), paper::iv(), b"twenty bytes of list", &whole)
         + reference::opens(paper::key(), b"twenty bytes of list", &whole)
-        + undamaged_tested()
+        + one_if(test(paper::key(), &whole) == 0)
 }
 
 fn fails_with(bit: usize) -> usize
@@ -108,55 +101,25 @@ pub fn tested() -> usize {
 
 // ---- blocks moved, left out and added
 
-fn gets_6(sealed: &[u8]) -> usize
+// The record's blocks, by their numbers, in another order get 6.
+fn gets_6(numbers: [usize; 5], count: usize) -> usize
+    requires { ⌜ count ≤ 5 ⌝ }
     ensures { λ r. ⌜ r ≤ 1 ⌝ }
-{
-    let key = paper::key();
-    let mut out = [0u8; 96];
-    answers(&key, sealed, &mut out, 6, b"")
-}
-
-// A block of the record, by its offset, into another.
-fn put(out: &mut [u8], to: usize, from: usize)
-    requires { ⌜ to + 16 ≤ length (now out) ⌝ }
-    requires { ⌜ from + 16 ≤ 64 ⌝ }
 {
     let whole = sealed();
-    let block = blocks::block::load(&whole, from);
-    blocks::block::store(out, to, block);
-}
-
-fn swapped() -> usize
-    ensures { λ r. ⌜ r ≤ 1 ⌝ }
-{
-    let mut changed = sealed();
-    put(&mut changed, 16, 32);
-    put(&mut changed, 32, 16);
-    gets_6(&changed)
-}
-
-fn shortened() -> usize
-    ensures { λ r. ⌜ r ≤ 1 ⌝ }
-{
-    let mut changed = [0u8; 48];
-    put(&mut changed, 0, 0);
-    put(&mut changed, 16, 16);
-    put(&mut changed, 32, 48);
-    gets_6(&changed)
-}
-
-fn lengthened() -> usize
-    ensures { λ r. ⌜ r ≤ 1 ⌝ }
-{
     let mut changed = [0u8; 80];
-    put(&mut changed, 0, 0);
-    put(&mut changed, 16, 16);
-    put(&mut changed, 32, 32);
-    put(&mut changed, 48, 32);
-    put(&mut changed, 64, 48);
-    gets_6(&changed)
+    let mut i: usize = 0;
+    while i < count {
+        let b = blocks::block::load(&whole, numbers[i] % 4 * 16);
+        blocks::block::store(&mut changed, i * 16, b);
+        i += 1;
+    }
+    let key = paper::key();
+    let mut out = [0u8; 96];
+    answers(&key, &changed[0..count * 16], &mut out, 6, b"")
 }
 
+// The ciphertext blocks, 1 and 2, swapped; the second left out; the second twice.
 pub fn rearranged() -> usize {
-    swapped() + shortened() + lengthened()
+    gets_6([0, 2, 1, 3, 0], 4) + gets_6([0, 1, 3, 0, 0], 3) + gets_6([0, 1, 2, 2, 3], 5)
 }

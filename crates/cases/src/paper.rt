@@ -10,6 +10,7 @@ use case_tools::bytes::one_if;
 use case_tools::bytes::same_record;
 use case_tools::bytes::written;
 use case_tools::hex::block;
+use case_tools::hex::bytes_at;
 use case_tools::paper::iv;
 use case_tools::paper::key;
 use case_tools::random::noise;
@@ -85,9 +86,12 @@ pub fn second_vector() -> usize {
 // Both blocks in one run, and the tag over them, which the paper does not print.
 pub fn both_blocks() -> usize {
     let mut text = [0u8; 48];
-    blocks::block::store(&mut text, 0, block(b"00112233445566778899AABBCCDDEEFF"));
-    blocks::block::store(&mut text, 16, block(b"030F28E63B8A9C570D7FEF31940226F4"));
-    blocks::block::store(&mut text, 32, block(b"8C501ED50FBBECE46655493BF9AD5229"));
+    bytes_at(
+        b"00112233445566778899AABBCCDDEEFF030F28E63B8A9C570D7FEF31940226F48C501ED50FBBECE46655493BF9AD5229",
+        0,
+        48,
+        &mut text,
+    );
     let a2 = block(b"663A59D5F6E4C59D291C40AECFE0CE28");
     let tag = block(b"9015A1139FA7EAF7F5AB5D96B9B76820");
     let all = &text[..];
