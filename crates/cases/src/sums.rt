@@ -1,5 +1,5 @@
-// What the paper prints between blocks, masks and tags: R1, a block plus its mask, A1 plus the mask after it, and what each is encrypted
-// to. A sum is taken of what the calls gave; the encryption is the library's own cipher.
+// What the paper prints between blocks, masks and tags: R1; a block plus its mask, A1 plus the mask after it, and what each of these sums
+// is encrypted to. The sums are of what the calls gave; the encryption is the library's own cipher.
 ghost use Prim.Native.Nat.{_≤_};
 use crate::paper::first_link;
 use crate::paper::jumped;
