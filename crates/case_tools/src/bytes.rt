@@ -1,6 +1,7 @@
 // What a case compares.
 ghost use Prim.Native.Nat.{_≤_};
 use mode::RecordAnswer;
+use mode::RunAnswer;
 use mode::RunRecord;
 use mode::TagAnswer;
 use mode::Written;
@@ -53,6 +54,17 @@ pub fn flip(bytes: &mut [u8], at: usize, bits: u8) {
 
 // ---- answers
 
+// What stands for a refusal where an answer is not as it should be. No call refuses with it.
+pub const NO_ANSWER: u8 = 255;
+
+// A run's refusal and length.
+pub fn of_run(a: RunAnswer) -> Written {
+    Written {
+        refusal: a.refusal,
+        length: a.length,
+    }
+}
+
 // The refusal and the length are as they should be, and the lent output is zero beyond the answer.
 pub fn written(w: Written, refusal: u8, length: usize, out: &[u8]) -> bool {
     w.refusal == refusal && w.length == length && zero_from(out, length)
@@ -72,6 +84,11 @@ pub fn same_record(a: RunRecord, b: RunRecord) -> bool {
 // A record as it stands beside a refusal.
 pub fn blank(run: RunRecord) -> bool {
     same_record(run, mode::refused(0).run)
+}
+
+// The refusal is as it should be, and no record stands beside it.
+pub fn refuses(a: RecordAnswer, refusal: u8) -> bool {
+    a.refusal == refusal && blank(a.run)
 }
 
 pub fn gives_record(a: RecordAnswer, run: RunRecord) -> bool {

@@ -1,8 +1,8 @@
 // Blocks cut into runs at random places, in a random order, and their records joined two at a time in a random order.
 ghost use Prim.Native.Nat.{_<_, _≤_};
+use case_tools::bytes::NO_ANSWER;
 use case_tools::random::Random;
 use mode::RecordAnswer;
-use mode::RunAnswer;
 use mode::RunRecord;
 
 // Runs 0 to `runs` - 1, of 8 at most. Run i starts at block `starts[i]`; the last one goes to the end. They are worked in the order
@@ -109,29 +109,21 @@ fn span_of(cut: Cut, i: usize, size: usize, padded: bool) -> Span
     }
 }
 
-// A number that no call refuses with.
-const NO_RUN: u8 = 255;
-
-// Seals a run into its own part of an output.
-fn seal_span(key: [u8; 16], iv: [u8; 16], s: Span, message: &[u8], out: &mut [u8]) -> RunAnswer {
+// Seals a run into its own part of an output, which it fills.
+fn seal_span(key: [u8; 16], iv: [u8; 16], s: Span, message: &[u8], out: &mut [u8]) -> RecordAnswer {
     let from = s.from;
     let to = s.to;
     let stop = s.stop;
     if to < from || message.len() < to || stop < from || out.len() < stop {
-        return RunAnswer {
-            refusal: NO_RUN,
-            length: 0,
-            run: no_record(),
-        };
+        return mode::refused(NO_ANSWER);
     }
-    calls::run::seal_run(
-        &key,
-        &iv,
-        s.first,
-        s.last,
-        &message[from..to],
-        &mut out[from..stop],
-    )
+    let part = &mut out[from..stop];
+    let a = calls::run::seal_run(&key, &iv, s.first, s.last, &message[from..to], part);
+    if a.refusal != 0 || a.length != stop - from {
+        return mode::refused(NO_ANSWER);
+    }
+    let run = a.run;
+    RecordAnswer { refusal: 0, run }
 }
 
 // Checks a run of ciphertext.
@@ -139,7 +131,7 @@ fn check_span(key: [u8; 16], iv: [u8; 16], s: Span, text: &[u8]) -> RecordAnswer
     let from = s.from;
     let to = s.to;
     if to < from || text.len() < to {
-        return mode::refused(NO_RUN);
+        return mode::refused(NO_ANSWER);
     }
     calls::run::check_run(&key, &iv, s.first, &text[from..to])
 }
@@ -160,25 +152,29 @@ fn no_record() -> RunRecord {
     }
 }
 
-fn seal_each(key: [u8; 16], iv: [u8; 16], cut: Cut, message: &[u8], out: &mut [u8]) -> Records {
-    let runs = at_most(cut.runs, 8);
-    let size = at_most(message.len(), 64000);
-    let order = cut.order;
-    let mut records = [no_record(); 8];
-    let mut taken = true;
-    let mut done: usize = 0;
-    while done < runs {
-        let i = order[done] % 8;
-        let a = seal_span(key, iv, span_of(cut, i, size, true), message, out);
-        let run = a.run;
-        records[i] = run;
-        taken = taken & (a.refusal == 0);
-        done += 1;
+// Seals or checks a run.
+fn work_span(
+    key: [u8; 16],
+    iv: [u8; 16],
+    s: Span,
+    sealing: bool,
+    text: &[u8],
+    out: &mut [u8],
+) -> RecordAnswer {
+    if sealing {
+        return seal_span(key, iv, s, text, out);
     }
-    Records { taken, records }
+    check_span(key, iv, s, text)
 }
 
-fn check_each(key: [u8; 16], iv: [u8; 16], cut: Cut, text: &[u8]) -> Records {
+fn each(
+    key: [u8; 16],
+    iv: [u8; 16],
+    cut: Cut,
+    sealing: bool,
+    text: &[u8],
+    out: &mut [u8],
+) -> Records {
     let runs = at_most(cut.runs, 8);
     let size = at_most(text.len(), 64000);
     let order = cut.order;
@@ -187,7 +183,7 @@ fn check_each(key: [u8; 16], iv: [u8; 16], cut: Cut, text: &[u8]) -> Records {
     let mut done: usize = 0;
     while done < runs {
         let i = order[done] % 8;
-        let a = check_span(key, iv, span_of(cut, i, size, false), text);
+        let a = work_span(key, iv, span_of(cut, i, size, sealing), sealing, text, out);
         let run = a.run;
         records[i] = run;
         taken = taken & (a.refusal == 0);
@@ -237,28 +233,19 @@ fn join_all(random: Random, records: [RunRecord; 8], runs: usize) -> RecordAnswe
 
 // ---- whole messages
 
-// A message sealed in runs: the ciphertext in an output, and the record of all blocks or a refusal.
-pub fn seal_in_runs(
+// A message sealed in runs, with the ciphertext in an output, or a ciphertext checked in runs: the record of all blocks, or a refusal.
+pub fn in_runs(
     key: [u8; 16],
     iv: [u8; 16],
     cut: Cut,
-    message: &[u8],
+    sealing: bool,
+    text: &[u8],
     out: &mut [u8],
 ) -> RecordAnswer {
-    let each = seal_each(key, iv, cut, message, out);
-    if !each.taken {
-        return mode::refused(NO_RUN);
+    let all = each(key, iv, cut, sealing, text, out);
+    if !all.taken {
+        return mode::refused(NO_ANSWER);
     }
-    let records = each.records;
-    join_all(cut.random, records, cut.runs)
-}
-
-// A ciphertext checked in runs.
-pub fn check_in_runs(key: [u8; 16], iv: [u8; 16], cut: Cut, text: &[u8]) -> RecordAnswer {
-    let each = check_each(key, iv, cut, text);
-    if !each.taken {
-        return mode::refused(NO_RUN);
-    }
-    let records = each.records;
+    let records = all.records;
     join_all(cut.random, records, cut.runs)
 }

@@ -1,9 +1,8 @@
 // Seeded messages: each is sealed whole, sealed in runs and checked in runs, and opened, and all has to come to the same.
 ghost use Prim.Native.Nat.{_<_, _≤_};
 ghost use lib.ListN.{length};
-use crate::cut::check_in_runs;
 use crate::cut::cut_of;
-use crate::cut::seal_in_runs;
+use crate::cut::in_runs;
 use case_tools::bytes::gives_record;
 use case_tools::bytes::gives_tag;
 use case_tools::bytes::one_if;
@@ -15,7 +14,8 @@ use case_tools::random::noise;
 use mode::RecordAnswer;
 use mode::RunRecord;
 
-// How many messages agreed, by what was tried; the exclusive or of the tags, and of the last ciphertext blocks, of whole sealing.
+// How many messages agreed, by what was tried; the exclusive or of the tags, and of the last ciphertext blocks, of whole sealing. It is
+// given for one message, and for all.
 pub struct Agreed {
     pub sealed: usize,
     pub checked: usize,
@@ -38,11 +38,12 @@ fn seals(
     ensures { λ r. ⌜ r ≤ 1 ⌝ }
 {
     let mut out = [0u8; 6144];
+    noise(&mut out);
     if 6144 < message.len() {
         return 0;
     }
     let whole = cut_of(seed, message.len() / 16);
-    let joined = seal_in_runs(key, iv, whole, message, &mut out);
+    let joined = in_runs(key, iv, whole, true, message, &mut out);
     one_if(starts_with(&out, text) & closes(key, iv, joined, tag))
 }
 
@@ -65,54 +66,53 @@ fn checks(key: [u8; 16], iv: [u8; 16], seed: u32, text: &[u8], tag: [u8; 16]) ->
     if 6144 < text.len() {
         return 0;
     }
-    let joined = check_in_runs(key, iv, cut_of(seed, text.len() / 16), text);
+    let mut unused = [0u8; 16];
+    let joined = in_runs(
+        key,
+        iv,
+        cut_of(seed, text.len() / 16),
+        false,
+        text,
+        &mut unused,
+    );
     let whole = calls::run::check_run(&key, &iv, 0, text);
     let run = whole.run;
     one_if((whole.refusal == 0) & gives_record(joined, run) & passes(key, iv, run, tag))
 }
 
-// What one message gave.
-struct One {
-    sealed: usize,
-    checked: usize,
-    opened: usize,
-    tag: [u8; 16],
-    end: [u8; 16],
-}
-
 // Nothing agreed.
-fn nothing() -> One
+fn nothing() -> Agreed
     ensures { λ r. ⌜ (r .sealed ≤ 1) × (r .checked ≤ 1) × (r .opened ≤ 1) ⌝ }
 {
-    One {
+    Agreed {
         sealed: 0,
         checked: 0,
         opened: 0,
-        tag: [0u8; 16],
-        end: [0u8; 16],
+        tags: [0u8; 16],
+        ends: [0u8; 16],
     }
 }
 
 // All else held to the whole record of a message.
-fn held_to(key: [u8; 16], iv: [u8; 16], seed: u32, message: &[u8], whole: &[u8]) -> One
+fn held_to(key: [u8; 16], iv: [u8; 16], seed: u32, message: &[u8], whole: &[u8]) -> Agreed
     requires { ⌜ seed < 1000000 ⌝ }
     requires { ⌜ 48 ≤ length (now whole) ⌝ }
     ensures { λ r. ⌜ (r .sealed ≤ 1) × (r .checked ≤ 1) × (r .opened ≤ 1) ⌝ }
 {
     let stop = whole.len() - 16;
-    let tag = blocks::block::load(whole, stop);
-    let end = blocks::block::load(whole, stop - 16);
+    let tags = blocks::block::load(whole, stop);
+    let ends = blocks::block::load(whole, stop - 16);
     let mut out = [0u8; 6144];
-    One {
-        sealed: seals(key, iv, seed + 1, message, &whole[16..stop], tag),
-        checked: checks(key, iv, seed + 1000, &whole[16..stop], tag),
+    Agreed {
+        sealed: seals(key, iv, seed + 1, message, &whole[16..stop], tags),
+        checked: checks(key, iv, seed + 1000, &whole[16..stop], tags),
         opened: case_tools::open::answers(&key, whole, &mut out, 0, message),
-        tag,
-        end,
+        tags,
+        ends,
     }
 }
 
-fn one_message(key: [u8; 16], iv: [u8; 16], seed: u32, message: &[u8]) -> One
+fn one_message(key: [u8; 16], iv: [u8; 16], seed: u32, message: &[u8]) -> Agreed
     requires { ⌜ seed < 1000000 ⌝ }
     ensures { λ r. ⌜ (r .sealed ≤ 1) × (r .checked ≤ 1) × (r .opened ≤ 1) ⌝ }
 {
@@ -142,7 +142,7 @@ fn most(number: u32) -> usize
 }
 
 // Key, IV and message of a number, from the generator.
-fn numbered(number: u32) -> One
+fn numbered(number: u32) -> Agreed
     requires { ⌜ number < 400 ⌝ }
     ensures { λ r. ⌜ (r .sealed ≤ 1) × (r .checked ≤ 1) × (r .opened ≤ 1) ⌝ }
 {
@@ -170,10 +170,10 @@ pub fn run() -> Agreed {
         sealed += one.sealed;
         checked += one.checked;
         opened += one.opened;
-        let tag = one.tag;
+        let tag = one.tags;
         let more_tags = blocks::block::xor(tags, tag);
         tags = more_tags;
-        let end = one.end;
+        let end = one.ends;
         let more_ends = blocks::block::xor(ends, end);
         ends = more_ends;
         number += 1;

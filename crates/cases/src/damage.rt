@@ -1,33 +1,29 @@
 // A sealed record with each of its bits flipped in turn.
 ghost use mathlib.Core.Path.{_≡_};
-ghost use Prim.Native.Nat.{_+_, _≤_};
+ghost use Prim.Native.Nat.{_≤_};
 ghost use lib.ListN.{length};
+use crate::reference;
+use case_tools::bytes::NO_ANSWER;
 use case_tools::bytes::flip;
 use case_tools::bytes::one_if;
+use case_tools::hex::bytes_at;
 use case_tools::open::answers;
 use case_tools::paper;
 use mode::RecordAnswer;
 
-// The record of a message of 20 bytes: IV, two blocks, tag.
+// The record of a message of 20 bytes, as vectors/make-mode-vectors seals it: IV, two blocks, tag.
 fn sealed() -> [u8; 64] {
-    let mut out = [0u8; 64];
-    let key = paper::key();
-    let iv = paper::iv();
-    calls::seal::seal(&key, &iv, b"twenty bytes of list", &mut out);
-    out
+    let mut r = [0u8; 64];
+    bytes_at(
+        b"0123456789ABCDEF0123456789ABCDEF15E1DB963E0C1EC0B281E610483D1D69F2BC1D6DC4A61430FAC5F6EEAB692DB8F80C6DD44A859AE2B6EBFDB7F04CB5AD",
+        0,
+        64,
+        &mut r,
+    );
+    r
 }
 
 // ---- opened
-
-// The record as it is gives the message.
-fn undamaged_opened() -> usize
-    ensures { λ r. ⌜ r ≤ 1 ⌝ }
-{
-    let key = paper::key();
-    let whole = sealed();
-    let mut out = [0u8; 96];
-    answers(&key, &whole, &mut out, 0, b"twenty bytes of list")
-}
 
 // With a bit flipped it gets 6, and the output is zero from end to end.
 fn refused_with(bit: usize) -> usize
@@ -56,10 +52,13 @@ pub fn opened() -> usize {
 fn checked(key: [u8; 16], iv: [u8; 16], c1: [u8; 16], c2: [u8; 16]) -> RecordAnswer {
     let left = calls::run::check_run(&key, &iv, 0, &c1);
     let right = calls::run::check_run(&key, &iv, 1, &c2);
+    if left.refusal != 0 || right.refusal != 0 {
+        return mode::refused(NO_ANSWER);
+    }
     left.run.join(right.run)
 }
 
-// What the test of a record's tag answers: 0, or a refusal.
+// What the test of a record's tag answers, 0 or a refusal. Where no record comes to be tested, it is none of them.
 fn test(key: [u8; 16], sealed: &[u8]) -> u8
     requires { ⌜ length (now sealed) ≡ 64 ⌝ }
 {
@@ -68,19 +67,18 @@ fn test(key: [u8; 16], sealed: &[u8]) -> u8
     let c2 = blocks::block::load(sealed, 32);
     let tag = blocks::block::load(sealed, 48);
     let joined = checked(key, iv, c1, c2);
+    if joined.refusal != 0 {
+        return NO_ANSWER;
+    }
     calls::record::test(&key, &iv, joined.run, &tag)
 }
 
-fn undamaged_tested() -> usize
-    ensures { λ r. ⌜ r ≤ 1 ⌝ }
-{
-    let whole = sealed();
-    one_if(test(paper::key(), &whole) == 0)
-}
-
-// The record as it is, opened and tested.
+// The record as it is: sealed, opened and tested.
 pub fn undamaged() -> usize {
-    undamaged_opened() + undamaged_tested()
+    let whole = sealed();
+    reference::seals(paper::key(), paper::iv(), b"twenty bytes of list", &whole)
+        + reference::opens(paper::key(), b"twenty bytes of list", &whole)
+        + one_if(test(paper::key(), &whole) == 0)
 }
 
 fn fails_with(bit: usize) -> usize
@@ -103,55 +101,25 @@ pub fn tested() -> usize {
 
 // ---- blocks moved, left out and added
 
-fn gets_6(sealed: &[u8]) -> usize
+// The record's blocks, by their numbers, in another order get 6.
+fn gets_6(numbers: [usize; 5], count: usize) -> usize
+    requires { ⌜ count ≤ 5 ⌝ }
     ensures { λ r. ⌜ r ≤ 1 ⌝ }
-{
-    let key = paper::key();
-    let mut out = [0u8; 96];
-    answers(&key, sealed, &mut out, 6, b"")
-}
-
-// A block of the record, by its offset, into another.
-fn put(out: &mut [u8], to: usize, from: usize)
-    requires { ⌜ to + 16 ≤ length (now out) ⌝ }
-    requires { ⌜ from + 16 ≤ 64 ⌝ }
 {
     let whole = sealed();
-    let block = blocks::block::load(&whole, from);
-    blocks::block::store(out, to, block);
-}
-
-fn swapped() -> usize
-    ensures { λ r. ⌜ r ≤ 1 ⌝ }
-{
-    let mut changed = sealed();
-    put(&mut changed, 16, 32);
-    put(&mut changed, 32, 16);
-    gets_6(&changed)
-}
-
-fn shortened() -> usize
-    ensures { λ r. ⌜ r ≤ 1 ⌝ }
-{
-    let mut changed = [0u8; 48];
-    put(&mut changed, 0, 0);
-    put(&mut changed, 16, 16);
-    put(&mut changed, 32, 48);
-    gets_6(&changed)
-}
-
-fn lengthened() -> usize
-    ensures { λ r. ⌜ r ≤ 1 ⌝ }
-{
     let mut changed = [0u8; 80];
-    put(&mut changed, 0, 0);
-    put(&mut changed, 16, 16);
-    put(&mut changed, 32, 32);
-    put(&mut changed, 48, 32);
-    put(&mut changed, 64, 48);
-    gets_6(&changed)
+    let mut i: usize = 0;
+    while i < count {
+        let b = blocks::block::load(&whole, numbers[i] % 4 * 16);
+        blocks::block::store(&mut changed, i * 16, b);
+        i += 1;
+    }
+    let key = paper::key();
+    let mut out = [0u8; 96];
+    answers(&key, &changed[0..count * 16], &mut out, 6, b"")
 }
 
+// The ciphertext blocks, 1 and 2, swapped; the second left out; the second twice.
 pub fn rearranged() -> usize {
-    swapped() + shortened() + lengthened()
+    gets_6([0, 2, 1, 3, 0], 4) + gets_6([0, 1, 3, 0, 0], 3) + gets_6([0, 1, 2, 2, 3], 5)
 }

@@ -1,14 +1,15 @@
-// The paper's vectors, records from elsewhere, cuts and damage, run against the proved library. Each line says how many cases of a group
+// The paper's vectors, reference records, cuts and damage, run against the proved library. Each line says how many cases of a group
 // agreed.
 use case_tools::report;
 
 mod paper; // paper.rt: the vectors of the mode's paper
-mod elsewhere; // elsewhere.rt: records that another program sealed
+mod sums; // sums.rt: what the paper prints between the others
+mod reference; // reference.rt: records that a second program sealed
 mod cut; // cut.rt: blocks cut into runs
 mod cuts; // cuts.rt: seeded messages, whole and in runs
 mod damage; // damage.rt: a record with each bit flipped
 
-// ---- the paper, and records from elsewhere
+// ---- the paper, and reference records
 
 fn report_paper() {
     report(b"paper, first vector", paper::first_vector(), 5);
@@ -16,15 +17,16 @@ fn report_paper() {
     report(b"paper, both blocks in one run", paper::both_blocks(), 5);
     report(b"paper's rule, 4000 blocks", paper::long_chain(), 7);
     report(b"paper, masks", paper::masks(), 3);
+    report(b"paper, sums and encryptions", sums::printed(), 7);
     report(b"jumps of 1", paper::jumps_of_one(), 3);
     report(b"start mask of zero", paper::zero_start_mask(), 5);
 }
 
-fn report_elsewhere(text: &[u8]) {
-    let agreed = elsewhere::run(text);
-    report(b"records from elsewhere, sealed", agreed.sealed, 128);
-    report(b"records from elsewhere, opened", agreed.opened, 128);
-    report(b"records from elsewhere, tested", agreed.tested, 128);
+fn report_reference(text: &[u8]) {
+    let agreed = reference::run(text);
+    report(b"reference records, sealed", agreed.sealed, 128);
+    report(b"reference records, opened", agreed.opened, 128);
+    report(b"reference records, tested", agreed.tested, 128);
 }
 
 fn run_file(path: &[u8]) {
@@ -36,7 +38,7 @@ fn run_file(path: &[u8]) {
     let mut buffer = io::large_buffer();
     let n = io::read_full(file, &mut buffer);
     libc::close(file);
-    report_elsewhere(&buffer[..n]);
+    report_reference(&buffer[..n]);
 }
 
 // ---- cuts, damage
@@ -46,11 +48,11 @@ fn report_cuts() {
     report(b"cuts, sealed in runs", agreed.sealed, 400);
     report(b"cuts, checked in runs", agreed.checked, 400);
     report(b"cuts, opened", agreed.opened, 400);
-    report(b"cuts, sums from elsewhere", cuts::sums(agreed), 2);
+    report(b"cuts, reference sums", cuts::sums(agreed), 2);
 }
 
 fn report_damage() {
-    report(b"damage, the record itself", damage::undamaged(), 2);
+    report(b"damage, the record itself", damage::undamaged(), 3);
     report(b"damage, each bit, opened", damage::opened(), 512);
     report(b"damage, each bit, tested", damage::tested(), 512);
     report(b"damage, blocks rearranged", damage::rearranged(), 3);

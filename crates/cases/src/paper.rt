@@ -5,13 +5,16 @@ ghost use lib.ListN.{length};
 use case_tools::bytes::answered;
 use case_tools::bytes::gives_record;
 use case_tools::bytes::gives_tag;
+use case_tools::bytes::of_run;
 use case_tools::bytes::one_if;
 use case_tools::bytes::same_record;
+use case_tools::bytes::written;
 use case_tools::hex::block;
+use case_tools::hex::bytes_at;
 use case_tools::paper::iv;
 use case_tools::paper::key;
+use case_tools::random::noise;
 use mode::RunRecord;
-use mode::Written;
 
 // ---- values as printed
 
@@ -21,13 +24,10 @@ fn seals(iv: [u8; 16], text: &[u8], cipher: &[u8], run: RunRecord) -> usize
 {
     let key = key();
     let mut out = [0u8; 65536];
-    case_tools::random::noise(&mut out);
+    noise(&mut out);
     let a = calls::run::seal_run(&key, &iv, run.first, false, text, &mut out);
-    let w = Written {
-        refusal: a.refusal,
-        length: a.length,
-    };
-    one_if(answered(w, 0, cipher, &out)) + one_if(same_record(a.run, run))
+    one_if(answered(of_run(a), 0, cipher, &out))
+        + one_if((a.refusal == 0) & same_record(a.run, run))
 }
 
 // Checking the ciphertext gives the record.
@@ -86,9 +86,12 @@ pub fn second_vector() -> usize {
 // Both blocks in one run, and the tag over them, which the paper does not print.
 pub fn both_blocks() -> usize {
     let mut text = [0u8; 48];
-    blocks::block::store(&mut text, 0, block(b"00112233445566778899AABBCCDDEEFF"));
-    blocks::block::store(&mut text, 16, block(b"030F28E63B8A9C570D7FEF31940226F4"));
-    blocks::block::store(&mut text, 32, block(b"8C501ED50FBBECE46655493BF9AD5229"));
+    bytes_at(
+        b"00112233445566778899AABBCCDDEEFF030F28E63B8A9C570D7FEF31940226F48C501ED50FBBECE46655493BF9AD5229",
+        0,
+        48,
+        &mut text,
+    );
     let a2 = block(b"663A59D5F6E4C59D291C40AECFE0CE28");
     let tag = block(b"9015A1139FA7EAF7F5AB5D96B9B76820");
     let all = &text[..];
@@ -107,10 +110,15 @@ pub fn zero_start_mask() -> usize {
 
 // ---- masks
 
-fn jumped(mask: [u8; 16], distance: u32) -> [u8; 16] {
-    let mut out = [0u8; 16];
-    calls::mask::jump(&mask, distance, &mut out);
-    out
+// A mask jumped. Where the answer is not as it should be, the mask is zero, and so is each that it jumps to.
+pub fn jumped(mask: [u8; 16], distance: u32) -> [u8; 16] {
+    let mut out = [0u8; 32];
+    noise(&mut out);
+    let w = calls::mask::jump(&mask, distance, &mut out);
+    if written(w, 0, 16, &out) {
+        return blocks::block::load(&out, 0);
+    }
+    [0u8; 16]
 }
 
 // 249 jumps of 4,000 blocks.
@@ -149,35 +157,55 @@ pub fn jumps_of_one() -> usize {
 // ---- the second vector's rule over 4,000 blocks
 
 // The last ciphertext block, which is the next block of the message, and the record of all blocks so far.
-struct Link {
-    block: [u8; 16],
-    run: RunRecord,
+pub struct Link {
+    pub block: [u8; 16],
+    pub run: RunRecord,
 }
 
-// One block sealed and joined to those before it. Where a call is refused, the block is zero.
+// One block sealed and joined to those before it. Where an answer is not as it should be, block and record are zero.
 fn next_link(before: Link, number: u32) -> Link {
     let key = key();
     let iv = iv();
-    let block = before.block;
+    let text = before.block;
     let left = before.run;
-    let mut out = [0u8; 16];
-    let sealed = calls::run::seal_run(&key, &iv, number, false, &block, &mut out);
+    let mut out = [0u8; 32];
+    noise(&mut out);
+    let sealed = calls::run::seal_run(&key, &iv, number, false, &text, &mut out);
     let right = sealed.run;
     let joined = left.join(right);
+    if !written(of_run(sealed), 0, 16, &out) || joined.refusal != 0 {
+        return Link {
+            block: [0u8; 16],
+            run: record(0, 0, [0u8; 16]),
+        };
+    }
     let run = joined.run;
-    Link { block: out, run }
+    Link {
+        block: blocks::block::load(&out, 0),
+        run,
+    }
+}
+
+// Block m1, with none before it.
+fn no_link() -> Link {
+    Link {
+        block: block(b"00112233445566778899AABBCCDDEEFF"),
+        run: record(0, 0, [0u8; 16]),
+    }
+}
+
+// Block c1, and the record that holds A1, as the calls give them.
+pub fn first_link() -> Link {
+    next_link(no_link(), 0)
 }
 
 // The 4,001 blocks m1, c1, c2, .. in order, and the record of all.
 fn chain(text: &mut [u8]) -> RunRecord
     requires { ⌜ length (now text) ≡ 64016 ⌝ }
 {
-    let m1 = block(b"00112233445566778899AABBCCDDEEFF");
+    let mut last = no_link();
+    let m1 = last.block;
     blocks::block::store(text, 0, m1);
-    let mut last = Link {
-        block: m1,
-        run: record(0, 0, [0u8; 16]),
-    };
     let mut n: u32 = 0;
     while n < 4000 {
         let next = next_link(last, n);
@@ -198,7 +226,7 @@ fn in_one_run(text: &[u8], run: RunRecord) -> usize
 }
 
 // The last ciphertext block, the pre-authenticator and the tag are those of vectors/make-mode-vectors.
-fn as_elsewhere(text: &[u8], run: RunRecord) -> usize
+fn as_reference(text: &[u8], run: RunRecord) -> usize
     requires { ⌜ length (now text) ≡ 64016 ⌝ }
     ensures { λ r. ⌜ r ≤ 4 ⌝ }
 {
@@ -213,5 +241,5 @@ fn as_elsewhere(text: &[u8], run: RunRecord) -> usize
 pub fn long_chain() -> usize {
     let mut text = [0u8; 64016];
     let run = chain(&mut text);
-    as_elsewhere(&text, run) + in_one_run(&text, run)
+    as_reference(&text, run) + in_one_run(&text, run)
 }

@@ -1,15 +1,16 @@
 // One case of jumping a mask, and what it gets.
 ghost use Prim.Native.Nat.{_≤_};
+use crate::reference;
+use case_tools::bytes::answered;
 use case_tools::bytes::one_if;
-use case_tools::bytes::written;
 use case_tools::random::noise;
 
-fn answers(mask: &[u8], distance: u32, out: &mut [u8], refusal: u8, size: usize) -> usize
+fn answers(mask: &[u8], distance: u32, out: &mut [u8], refusal: u8, answer: &[u8]) -> usize
     ensures { λ r. ⌜ r ≤ 1 ⌝ }
 {
     noise(out);
     let w = calls::mask::jump(mask, distance, out);
-    one_if(written(w, refusal, size, out))
+    one_if(answered(w, refusal, answer, out))
 }
 
 pub fn refused(mask: usize, distance: u32, room: usize, refusal: u8) -> usize
@@ -19,7 +20,7 @@ pub fn refused(mask: usize, distance: u32, room: usize, refusal: u8) -> usize
 {
     let bytes = [5u8; 64];
     let mut out = [0u8; 64];
-    answers(&bytes[0..mask], distance, &mut out[0..room], refusal, 0)
+    answers(&bytes[0..mask], distance, &mut out[0..room], refusal, b"")
 }
 
 pub fn jumped(distance: u32, room: usize) -> usize
@@ -27,6 +28,7 @@ pub fn jumped(distance: u32, room: usize) -> usize
     ensures { λ r. ⌜ r ≤ 1 ⌝ }
 {
     let bytes = [5u8; 16];
+    let answer = reference::mask(distance);
     let mut out = [0u8; 64];
-    answers(&bytes, distance, &mut out[0..room], 0, 16)
+    answers(&bytes, distance, &mut out[0..room], 0, &answer)
 }

@@ -2,6 +2,7 @@
 // says how many cases of a group agreed.
 use case_tools::report;
 
+mod reference; // reference.rt: what the second program gives
 mod seal_case; // seal_case.rt: a case of sealing
 mod open_case; // open_case.rt: a case of opening
 mod run_case; // run_case.rt: a case of sealing or checking a run
@@ -38,7 +39,7 @@ fn report_records() {
     report(b"refusal 8, join", table::adjoining(), 7);
     report(b"refusal 9, close and test", table::whole(), 10);
     report(b"join, empty runs", record_case::empty_neighbours(), 2);
-    report(b"join, the formula", record_case::formula(), 1);
+    report(b"join, the formula", table::formula(), 1);
 }
 
 fn report_room() {

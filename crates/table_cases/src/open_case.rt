@@ -1,7 +1,9 @@
 // One case of opening: a record and a lent output, and what it gets.
 ghost use Prim.Native.Nat.{_≤_};
+use case_tools::bytes::NO_ANSWER;
 use case_tools::bytes::flip;
-use case_tools::bytes::one_if;
+use case_tools::bytes::of_run;
+use case_tools::bytes::written;
 use case_tools::open::answers;
 use case_tools::paper;
 use case_tools::random::noise;
@@ -29,13 +31,13 @@ pub fn noise_refused(key: usize, sealed: usize, room: usize, refusal: u8) -> usi
 
 // ---- sealed records
 
-// Opens what was sealed, if the record has a length that it should have.
+// Opens the first `size` bytes of what was sealed. Where they are none, nothing was sealed.
 fn opened(sealed: &[u8], size: usize, key: usize, room: usize, refusal: u8, message: &[u8]) -> usize
     requires { ⌜ key ≤ 32 ⌝ }
     requires { ⌜ room ≤ 65536 ⌝ }
     ensures { λ r. ⌜ r ≤ 1 ⌝ }
 {
-    if sealed.len() < size {
+    if size == 0 || sealed.len() < size {
         return 0;
     }
     let mut keys = [0u8; 32];
@@ -50,6 +52,16 @@ fn opened(sealed: &[u8], size: usize, key: usize, room: usize, refusal: u8, mess
     )
 }
 
+// A message sealed into an output that held noise: the record's length, or 0 where the answer is not as it should be.
+fn seal_whole(message: &[u8], out: &mut [u8]) -> usize {
+    noise(out);
+    let key = paper::key();
+    let iv = paper::iv();
+    let w = calls::seal::seal(&key, &iv, message, out);
+    let size = message.len() / 16 * 16 + 48;
+    if written(w, 0, size, out) { size } else { 0 }
+}
+
 // A message of noise, sealed and opened again.
 pub fn given(message: usize, room: usize) -> usize
     requires { ⌜ message ≤ 64000 ⌝ }
@@ -59,10 +71,8 @@ pub fn given(message: usize, room: usize) -> usize
     let mut text = [0u8; 64000];
     noise(&mut text);
     let mut sealed = [0u8; 65536];
-    let key = paper::key();
-    let iv = paper::iv();
-    let w = calls::seal::seal(&key, &iv, &text[0..message], &mut sealed);
-    opened(&sealed, w.length, 16, room, 0, &text[0..message])
+    let size = seal_whole(&text[0..message], &mut sealed);
+    opened(&sealed, size, 16, room, 0, &text[0..message])
 }
 
 // The same with another key or output, and with one bit of the tag flipped or none.
@@ -74,11 +84,9 @@ pub fn refused(message: usize, key: usize, flipped: bool, room: usize, refusal: 
 {
     let text = [9u8; 64];
     let mut sealed = [0u8; 128];
-    let right = paper::key();
-    let iv = paper::iv();
-    let w = calls::seal::seal(&right, &iv, &text[0..message], &mut sealed);
-    flip_last(flipped, &mut sealed, w.length);
-    opened(&sealed, w.length, key, room, refusal, b"")
+    let size = seal_whole(&text[0..message], &mut sealed);
+    flip_last(flipped, &mut sealed, size);
+    opened(&sealed, size, key, room, refusal, b"")
 }
 
 // Flips the last bit of the first `size` bytes, where it is asked.
@@ -94,11 +102,18 @@ fn flip_last(asked: bool, bytes: &mut [u8], size: usize) {
 fn seal_blocks(text: &[u8], out: &mut [u8]) -> TagAnswer {
     let key = paper::key();
     let iv = paper::iv();
-    let run = calls::run::seal_run(&key, &iv, 0, false, text, out).run;
-    calls::record::close(&key, &iv, run)
+    let a = calls::run::seal_run(&key, &iv, 0, false, text, out);
+    if !written(of_run(a), 0, text.len(), out) {
+        return TagAnswer {
+            refusal: NO_ANSWER,
+            tag: [0u8; 16],
+        };
+    }
+    calls::record::close(&key, &iv, a.run)
 }
 
-// The IV, the ciphertext of whole blocks through a middle run, and the closing tag. The answer is the record's length, or 0.
+// The IV, the ciphertext of whole blocks through a middle run, and the closing tag, in an output that held noise. The answer is the
+// record's length, or 0.
 fn put_together(text: &[u8], sealed: &mut [u8]) -> usize {
     if sealed.len() < 32 {
         return 0;
@@ -106,10 +121,11 @@ fn put_together(text: &[u8], sealed: &mut [u8]) -> usize {
     if sealed.len() - 32 < text.len() {
         return 0;
     }
+    noise(sealed);
     let stop = text.len() + 16;
     let size = text.len() + 32;
     blocks::block::store(sealed, 0, paper::iv());
-    let closed = seal_blocks(text, &mut sealed[16..stop]);
+    let closed = seal_blocks(text, &mut sealed[16..]);
     if closed.refusal != 0 {
         return 0;
     }
@@ -125,9 +141,6 @@ pub fn unpadded(text: &[u8], flipped: bool, room: usize, refusal: u8) -> usize
 {
     let mut sealed = [0u8; 128];
     let size = put_together(text, &mut sealed);
-    if size == 0 {
-        return 0;
-    }
     flip_last(flipped, &mut sealed, size);
     opened(&sealed, size, 16, room, refusal, b"")
 }

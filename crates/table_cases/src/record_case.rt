@@ -1,9 +1,11 @@
 // One case of joining, closing or testing a record made by hand, and what it gets.
-ghost use Prim.Native.Nat.{_≤_};
-use case_tools::bytes::blank;
+ghost use Prim.Native.Nat.{_+_, _≤_};
+use crate::reference;
 use case_tools::bytes::flip;
 use case_tools::bytes::gives_record;
+use case_tools::bytes::gives_tag;
 use case_tools::bytes::one_if;
+use case_tools::bytes::refuses;
 use case_tools::hex::block;
 use case_tools::paper;
 use mode::RunRecord;
@@ -14,6 +16,15 @@ fn made(first: u32, count: u32) -> RunRecord {
         first,
         count,
         preauthenticator: block(b"5BD1E995C6EF3720A54FF53A1F83D9AB"),
+    }
+}
+
+// One that stands on the right of it.
+fn made_right(first: u32, count: u32) -> RunRecord {
+    RunRecord {
+        first,
+        count,
+        preauthenticator: block(b"243F6A8885A308D313198A2E03707344"),
     }
 }
 
@@ -35,26 +46,31 @@ pub fn join_refused(
 ) -> usize
     ensures { λ r. ⌜ r ≤ 1 ⌝ }
 {
-    let a = made(first, count).join(made(right_first, right_count));
-    one_if((a.refusal == refusal) & blank(a.run))
+    let a = made(first, count).join(made_right(right_first, right_count));
+    one_if(refuses(a, refusal))
 }
-
-pub fn joined(first: u32, count: u32, right_first: u32, right_count: u32) -> usize
-    ensures { λ r. ⌜ r ≤ 1 ⌝ }
-{
-    let a = made(first, count).join(made(right_first, right_count));
-    let run = a.run;
-    let all = count as u64 + right_count as u64;
-    one_if((a.refusal == 0) & (run.first == first) & (run.count as u64 == all))
-}
-
-// ---- the join's formula
 
 // A record joined with another gives a third.
 fn join_gives(left: RunRecord, right: RunRecord, all: RunRecord) -> usize
     ensures { λ r. ⌜ r ≤ 1 ⌝ }
 {
     one_if(gives_record(left.join(right), all))
+}
+
+pub fn joined(first: u32, count: u32, right_first: u32, right_count: u32) -> usize
+    requires { ⌜ count + «right_count» ≤ 4000 ⌝ }
+    ensures { λ r. ⌜ r ≤ 1 ⌝ }
+{
+    let all = RunRecord {
+        first,
+        count: count + right_count,
+        preauthenticator: reference::joined(right_count),
+    };
+    join_gives(
+        made(first, count),
+        made_right(right_first, right_count),
+        all,
+    )
 }
 
 // An empty neighbour whose pre-authenticator is zero changes nothing, on the right or on the left.
@@ -71,19 +87,6 @@ pub fn empty_neighbours() -> usize {
         preauthenticator: [0u8; 16],
     };
     join_gives(run, right, run) + join_gives(left, run, run)
-}
-
-// The left pre-authenticator is jumped by the right one's count, and the right one added.
-pub fn formula() -> usize {
-    let p = made(0, 0).preauthenticator;
-    let mut moved = [0u8; 16];
-    calls::mask::jump(&p, 300, &mut moved);
-    let all = RunRecord {
-        first: 1,
-        count: 302,
-        preauthenticator: blocks::block::xor(moved, p),
-    };
-    join_gives(made(1, 2), made(3, 300), all)
 }
 
 // ---- close
@@ -105,19 +108,13 @@ pub fn closed(count: u32) -> usize
 {
     let key = paper::key();
     let iv = paper::iv();
-    one_if(calls::record::close(&key, &iv, made(0, count)).refusal == 0)
+    one_if(gives_tag(
+        calls::record::close(&key, &iv, made(0, count)),
+        reference::tag(count),
+    ))
 }
 
 // ---- test
-
-// The tag that closing gives, where it gives one.
-fn tag_of(run: RunRecord) -> [u8; 32] {
-    let key = paper::key();
-    let iv = paper::iv();
-    let closed = calls::record::close(&key, &iv, run);
-    let tag = closed.tag;
-    lengthened(tag)
-}
 
 // The closing tag cut to a length, with its last bit flipped or not.
 fn test_answers(
@@ -135,7 +132,7 @@ fn test_answers(
 {
     let keys = lengthened(paper::key());
     let ivs = lengthened(paper::iv());
-    let mut tag = tag_of(run);
+    let mut tag = lengthened(reference::tag(run.count));
     flip(&mut tag, 15, if flipped { 1 } else { 0 });
     let answer = calls::record::test(&keys[0..key], &ivs[0..iv], run, &tag[0..size]);
     one_if(answer == refusal)

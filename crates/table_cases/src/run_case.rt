@@ -2,11 +2,11 @@
 ghost use Prim.Native.Nat.{_≤_};
 ghost use lib.ListN.{length};
 use case_tools::bytes::blank;
+use case_tools::bytes::of_run;
 use case_tools::bytes::one_if;
 use case_tools::bytes::written;
 use case_tools::random::noise;
 use mode::RunRecord;
-use mode::Written;
 
 // The record's numbers; a blank record beside a refusal.
 fn as_expected(run: RunRecord, refusal: u8, first: u32, count: u32) -> bool {
@@ -44,11 +44,7 @@ fn answers(
         out,
     );
     let size = count as usize * 16;
-    let w = Written {
-        refusal: a.refusal,
-        length: a.length,
-    };
-    one_if(written(w, refusal, size, out) & as_expected(a.run, refusal, first, count))
+    one_if(written(of_run(a), refusal, size, out) & as_expected(a.run, refusal, first, count))
 }
 
 // A run of `text` bytes in an output of `room` bytes gets a refusal, or `count` blocks.

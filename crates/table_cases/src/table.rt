@@ -179,6 +179,11 @@ pub fn adjoining() -> usize {
         + record::join_refused(7, 0, 8, 0, 8)
 }
 
+// The left pre-authenticator is multiplied by the variable as often as the right record has blocks, and the right one added.
+pub fn formula() -> usize {
+    record::joined(1, 2, 3, 300)
+}
+
 // ---- row 9, records that are not whole
 
 pub fn whole() -> usize {

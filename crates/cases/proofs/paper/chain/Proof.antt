@@ -12,14 +12,11 @@ Inv-loop text₀ last₀ n₀ text last n = (n ≤ 4000) × (length text ≡ 640
 abbrev μ-loop : tie.MeasureT-loop
 μ-loop text₀ last₀ n₀ text last n = 4000 - n
 
-block-requires : tie.Need-block-requires Inv-loop μ-loop
-block-requires c κs = search needs
+no-link-requires : tie.Need-no-link-requires Inv-loop μ-loop
+no-link-requires c κs = search needs
 
 store-requires : tie.Need-store-requires Inv-loop μ-loop
 store-requires c κs = search needs
-
-record-requires : tie.Need-record-requires Inv-loop μ-loop
-record-requires c κs = search needs
 
 loop-holds : tie.Need-loop-holds Inv-loop μ-loop
 loop-holds c = search needs
@@ -57,9 +54,8 @@ chain-spec =
     (tie.spec
     Inv-loop
     μ-loop
-    block-requires
+    no-link-requires
     store-requires
-    record-requires
     loop-holds
     next-link-requires
     add-n

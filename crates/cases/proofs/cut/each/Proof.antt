@@ -3,14 +3,14 @@ use borrow.Author.Needs.{needs}
 use Prim.Native.Nat.{_≤_, _-_}
 use lib.ListN.{length}
 use mathlib.Core.Path.{_≡_}
-use Rattle.cases.proofs.cut.seal_each.Statement.{statement}
-use Rattle.cases.proofs.cut.seal_each.Tie as tie
+use Rattle.cases.proofs.cut.each.Statement.{statement}
+use Rattle.cases.proofs.cut.each.Tie as tie
 
 abbrev Inv-loop : tie.InvT-loop
-Inv-loop key iv cut message out₀ runs size order records₀ taken₀ done₀ out records taken done = (done ≤ runs) × (length out ≡ length out₀)
+Inv-loop key iv cut sealing text out₀ runs size order records₀ taken₀ done₀ out records taken done = (done ≤ runs) × (length out ≡ length out₀)
 
 abbrev μ-loop : tie.MeasureT-loop
-μ-loop key iv cut message out₀ runs size order records₀ taken₀ done₀ out records taken done = runs - done
+μ-loop key iv cut sealing text out₀ runs size order records₀ taken₀ done₀ out records taken done = runs - done
 
 at-most-requires : tie.Need-at-most-requires Inv-loop μ-loop
 at-most-requires c κs = search needs
@@ -33,8 +33,8 @@ array-read-i c = search needs
 span-of-requires : tie.Need-span-of-requires Inv-loop μ-loop
 span-of-requires c κs = search needs
 
-seal-span-requires : tie.Need-seal-span-requires Inv-loop μ-loop
-seal-span-requires c κs = search needs
+work-span-requires : tie.Need-work-span-requires Inv-loop μ-loop
+work-span-requires c κs = search needs
 
 mul-records : tie.Need-mul-records Inv-loop μ-loop
 mul-records c = search needs
@@ -57,8 +57,8 @@ same-length c = search needs
 returns : tie.Need-returns Inv-loop μ-loop
 returns c = search needs
 
-pub seal-each-spec : {M : Type 1} → statement M
-seal-each-spec =
+pub each-spec : {M : Type 1} → statement M
+each-spec =
     tie.close
     (tie.spec
     Inv-loop
@@ -70,7 +70,7 @@ seal-each-spec =
     mul-i
     array-read-i
     span-of-requires
-    seal-span-requires
+    work-span-requires
     mul-records
     array-set-from-records
     add-done

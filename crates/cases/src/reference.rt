@@ -1,4 +1,4 @@
-// Records that another program sealed (docs/CASES.md), a line each: key, IV, message and record in hexadecimal digits, a space or the
+// Records that a second program sealed (docs/CASES.md), a line each: key, IV, message and record in hexadecimal digits, a space or the
 // line's end after each. Line n has a message of n bytes.
 ghost use Prim.Native.Nat.{_+_, _*_, _/_, _<_, _≤_};
 ghost use lib.ListN.{length};
@@ -15,7 +15,7 @@ pub struct Agreed {
 }
 
 // Sealing the message gives the record.
-fn seals(key: [u8; 16], iv: [u8; 16], message: &[u8], sealed: &[u8]) -> usize
+pub fn seals(key: [u8; 16], iv: [u8; 16], message: &[u8], sealed: &[u8]) -> usize
     ensures { λ r. ⌜ r ≤ 1 ⌝ }
 {
     let mut out = [0u8; 256];
@@ -25,13 +25,11 @@ fn seals(key: [u8; 16], iv: [u8; 16], message: &[u8], sealed: &[u8]) -> usize
 }
 
 // Opening the record gives the message.
-fn opens(key: [u8; 16], message: &[u8], sealed: &[u8]) -> usize
+pub fn opens(key: [u8; 16], message: &[u8], sealed: &[u8]) -> usize
     ensures { λ r. ⌜ r ≤ 1 ⌝ }
 {
     let mut out = [0u8; 256];
-    case_tools::random::noise(&mut out);
-    let w = calls::open::open(&key, sealed, &mut out);
-    one_if(answered(w, 0, message, &out))
+    case_tools::open::answers(&key, sealed, &mut out, 0, message)
 }
 
 // The record of the checked ciphertext passes the tag.

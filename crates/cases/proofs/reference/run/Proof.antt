@@ -2,8 +2,8 @@
 use borrow.Author.Needs.{needs}
 use Prim.Native.Nat.{_≤_, _-_}
 use lib.ListN.{length}
-use Rattle.cases.proofs.elsewhere.run.Statement.{statement}
-use Rattle.cases.proofs.elsewhere.run.Tie as tie
+use Rattle.cases.proofs.reference.run.Statement.{statement}
+use Rattle.cases.proofs.reference.run.Tie as tie
 
 abbrev Inv-loop : tie.InvT-loop
 Inv-loop text sealed₀ opened₀ tested₀ at₀ n₀ sealed opened tested at n = (n ≤ 128) × (at ≤ length text) × (sealed ≤ n) × (opened ≤ n) × (tested ≤ n)

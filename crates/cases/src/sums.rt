@@ -1,0 +1,49 @@
+// What the paper prints between blocks, masks and tags: R1; a block plus its mask, A1 plus the mask after it, and what each of these sums
+// is encrypted to. The sums are of what the calls gave; the encryption is the library's own cipher.
+ghost use Prim.Native.Nat.{_≤_};
+use crate::paper::first_link;
+use crate::paper::jumped;
+use blocks::block::equal;
+use blocks::block::xor;
+use case_tools::bytes::one_if;
+use case_tools::hex::block;
+use case_tools::paper::iv;
+use case_tools::paper::key;
+
+// Step 1: the IV plus the key, encrypted, plus the key.
+fn start_mask() -> [u8; 16] {
+    let key = key();
+    let encrypted = aes::encrypt_block(key, xor(iv(), key));
+    xor(encrypted, key)
+}
+
+// Two blocks have this sum, and it is encrypted to this.
+fn sum_is(a: [u8; 16], b: [u8; 16], sum: [u8; 16], encrypted: [u8; 16]) -> usize
+    ensures { λ r. ⌜ r ≤ 2 ⌝ }
+{
+    let added = xor(a, b);
+    let given = aes::encrypt_block(key(), added);
+    one_if(equal(added, sum)) + one_if(equal(given, encrypted))
+}
+
+// R1; then m1 plus R1, A1 plus R2 and m2 plus R2.
+pub fn printed() -> usize {
+    let r1 = start_mask();
+    let r2 = jumped(r1, 1);
+    let m1 = block(b"00112233445566778899AABBCCDDEEFF");
+    let first = first_link();
+    let m2 = first.block;
+    let run = first.run;
+    let a1 = run.preauthenticator;
+    let r1_printed = block(b"FDED29920913A3DA8C9ECA2F0FD434AA");
+    let sum1 = block(b"FDFC0BA14D46C5AD04076094C309DA55");
+    let sum1_encrypted = block(b"FEE2017432993F8D81E1251E9BD6125E");
+    let sum2 = block(b"38C588502886DE7E61978134F2BE476A");
+    let sum2_encrypted = block(b"08A2C2E93DFEEBEBEDD5CD4AB7351526");
+    let sum3 = block(b"F8D57BC229ADDBE214427B6F8BAA4F27");
+    let sum3_encrypted = block(b"778A4DF11D9CAB517F68DD65E6053BFA");
+    one_if(equal(r1, r1_printed))
+        + sum_is(m1, r1, sum1, sum1_encrypted)
+        + sum_is(a1, r2, sum2, sum2_encrypted)
+        + sum_is(m2, r2, sum3, sum3_encrypted)
+}
