@@ -2,7 +2,9 @@
 -- x^128 times its block, is brought down by x^128 = x^7 + x^2 + x + 1.
 use mathlib.Core.Path.{_≡_, refl, sym, ap, ap₂, _∙_}
 use mathlib.Core.List.{List}
-use Prim.Native.Nat.{ℕ, _+_, _*_, _/_, _%_, _^_, _<_}
+use Prim.Native.Nat.{ℕ, _+_, _*_, _-_, _/_, _%_, _^_, _<_}
+use native.Mathlib.Omega.{arith}
+use lib.Pow.{shr-shr}
 use lib.Bits.{bitXor}
 use lib.Dec.{lit<}
 use lib.ListN.{take, drop}
@@ -90,3 +92,7 @@ power-half n q e =
     ∙ same-block (block-jump (n % 2) (product p p) (block-product p p)) (block-power n)
     (num-jump (n % 2) (product p p) (block-product p p) ∙ ap (steps 127 0x87 (n % 2)) (num-product p p bq)
     ∙ power-next 127 0x87 poly-lt n (num p) (lit< tt) (num-power (n / 2)) ∙ sym (num-power n))
+
+-- n without its j low bits, and without one more
+pub one-bit-less : (n j : ℕ) → 0 < j → n / 2 ^ (j - 1) / 2 ≡ n / 2 ^ j
+one-bit-less n j h = shr-shr n (j - 1) 1 ∙ ap (λ (k : ℕ). n / 2 ^ k) (let e : j - 1 + 1 ≡ j = omega arith in e)

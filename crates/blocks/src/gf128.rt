@@ -1,7 +1,7 @@
 // A block as a polynomial over GF(2) of degree below 128, modulo x^128 + x^7 + x^2 + x + 1. The top bit of the first byte is the
 // coefficient of x^127.
 ghost use mathlib.Core.Path.{_≡_};
-ghost use Prim.Native.Nat.{_*_, _<_, _≤_};
+ghost use Prim.Native.Nat.{_*_, _/_, _<_, _≤_};
 ghost use lib.Bits.{bitXor};
 ghost use lib.ListN.{take, drop};
 ghost use Rattle.blocks.specs.Field.{step, steps, times};
@@ -119,18 +119,30 @@ fn next_power(q: [u8; 16], bit: u32) -> [u8; 16]
     if bit == 0 { s } else { times_x(s) }
 }
 
-// x^n.
-pub fn power(n: u32) -> [u8; 16]
+// From x^(n / 2) to x^n. While there is no bit yet, nothing is squared.
+fn take_power(q: [u8; 16], n: u32) -> [u8; 16]
+    requires { ⌜ q ≡ powerOf (n / 2) ⌝ }
     ensures { λ r. ⌜ r ≡ powerOf n ⌝ }
 {
     if n == 0 {
-        let mut one = [0u8; 16];
-        one[15] = 1;
-        one
-    } else {
-        let q = power(n / 2);
-        next_power(q, n % 2)
+        return q;
     }
+    next_power(q, n % 2)
+}
+
+// x^n, by the bits of n from the top.
+pub fn power(n: u32) -> [u8; 16]
+    ensures { λ r. ⌜ r ≡ powerOf n ⌝ }
+{
+    let mut q = [0u8; 16];
+    q[15] = 1;
+    let mut left: u32 = 32;
+    while left > 0 {
+        left -= 1;
+        let next = take_power(q, n >> left);
+        q = next;
+    }
+    q
 }
 
 // The block b, multiplied by x n times: one product, with x^n. A run from block 0 needs none.
