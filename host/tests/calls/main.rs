@@ -16,6 +16,7 @@ mod jumping;
 mod opening;
 mod runs;
 mod sealing;
+mod secrets;
 mod spread;
 mod typed;
 mod vectors;
