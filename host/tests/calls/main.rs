@@ -11,6 +11,7 @@ mod c_interface;
 mod closing;
 mod cuts;
 mod damage;
+mod documentation;
 mod joining;
 mod jumping;
 mod opening;
