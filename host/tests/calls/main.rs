@@ -6,6 +6,7 @@
 #[path = "../support/mod.rs"]
 mod support;
 
+#[cfg(bare_cipher)]
 mod bare_cipher;
 mod c_interface;
 mod closing;
@@ -14,6 +15,8 @@ mod damage;
 mod documentation;
 mod joining;
 mod jumping;
+#[cfg(not(bare_cipher))]
+mod no_bare_cipher;
 mod opening;
 mod runs;
 mod sealing;

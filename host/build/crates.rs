@@ -1,0 +1,59 @@
+//! The repository's list of crates: `NAME: DEPENDENCY DEPENDENCY`, a line each.
+
+use std::collections::HashMap;
+use std::fs;
+use std::path::{Path, PathBuf};
+
+/// The list's name in the top folder.
+pub const LIST: &str = "crates.txt";
+
+/// A crate's folder.
+pub fn folder(top: &Path, name: &str) -> PathBuf {
+    top.join("crates").join(name)
+}
+
+/// The crates that these are built from, themselves included, each after those below it.
+pub fn needed(top: &Path, names: &[&str]) -> Result<Vec<String>, String> {
+    let list = top.join(LIST);
+    let text = fs::read_to_string(&list).map_err(|error| format!("{}: {error}.", list.display()))?;
+    let below = parse(&text);
+    let mut order = Vec::new();
+    for name in names {
+        if !below.contains_key(*name) {
+            return Err(format!("{} does not list {name}.", list.display()));
+        }
+        visit(name, &below, &mut Vec::new(), &mut order);
+    }
+    order.sort_by_key(|name| level(name, &below, 0));
+    Ok(order.into_iter().map(str::to_string).collect())
+}
+
+/// Each crate's dependencies. What follows `#` is a comment.
+fn parse(text: &str) -> HashMap<&str, Vec<&str>> {
+    let lines = text.lines().map(|line| line.split('#').next().unwrap_or_default());
+    let entries = lines.filter_map(|line| line.split_once(':'));
+    entries.map(|(name, below)| (name.trim(), below.split_whitespace().collect())).collect()
+}
+
+/// Adds a crate behind those below it. A library of the toolchain is not in the list, and a crate that is on the way to itself is
+/// left for `rt` to refuse.
+fn visit<'a>(name: &'a str, below: &HashMap<&'a str, Vec<&'a str>>, way: &mut Vec<&'a str>, order: &mut Vec<&'a str>) {
+    if way.contains(&name) || order.contains(&name) {
+        return;
+    }
+    let Some(next) = below.get(name) else { return };
+    way.push(name);
+    for name in next {
+        visit(name, below, way, order);
+    }
+    way.pop();
+    order.push(name);
+}
+
+/// How many crates stand below each other under this one: `rt` proves level by level.
+fn level(name: &str, below: &HashMap<&str, Vec<&str>>, depth: usize) -> usize {
+    let next = below.get(name).filter(|_| depth <= below.len());
+    let levels =
+        next.into_iter().flatten().filter(|name| below.contains_key(*name)).map(|name| 1 + level(name, below, depth + 1));
+    levels.max().unwrap_or(0)
+}
