@@ -55,8 +55,31 @@
  * never written.
  *
  * There is no state, no heap and no initialisation: any call may be made from any thread at any
- * time. Some six kilobytes of stack were seen to be used, most of it by a jump, which recurses as often
- * as its distance has binary digits, at most 12 deep. No proof bounds the stack.
+ * time.
+ *
+ * FOR FIRMWARE
+ *
+ *  - libbalzenoh.a is one ELF object for x86-64 today, with the System V calling convention. It is
+ *    position-independent, and uses the registers of SSE2 and the red zone below the stack pointer.
+ *  - It needs memcpy and memset, and nothing else.
+ *  - It has 22,040 bytes of code, 2,016 of constants and no variables. Each function is a section of its
+ *    own, so that a linker with --gc-sections leaves out the calls that are not made.
+ *  - `rt staticlib balzenoh` in the repository's top folder makes it, with rt, the Rattle toolchain, on
+ *    the path; then link it: cc -Ihost/include program.c target/staticlib/libbalzenoh.a
+ *  - The stack that each call was seen to use, in bytes from its caller's frame down:
+ *
+ *      seal       1696
+ *      open       2128
+ *      seal_run   6536
+ *      check_run  6552
+ *      join       5960
+ *      join_list  5960
+ *      close      6536
+ *      test       6520
+ *      jump       5880
+ *
+ *    host/stack/run printed these figures, and those of the size. Most of it is used by a jump, which
+ *    recurses as often as its distance has binary digits, at most 12 deep. No proof bounds the stack.
  *
  * REFUSALS
  *
