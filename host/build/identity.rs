@@ -1,5 +1,6 @@
 //! What was proved, and by what, in one line: the commit of the sources and the toolchain's identity.
 
+use std::env;
 use std::ffi::OsStr;
 use std::path::Path;
 use std::process::Command;
@@ -12,8 +13,13 @@ pub fn built(top: &Path, toolchain: &str) -> String {
     format!("commit {}, toolchain {toolchain}", commit(top).unwrap_or("unknown".into()))
 }
 
-/// What `rt version` prints.
+/// What `rt version` prints. The program is watched.
 pub fn toolchain() -> String {
+    let folders = env::var_os("PATH").unwrap_or_default();
+    let found = env::split_paths(&folders).map(|folder| folder.join("rt")).find(|path| path.is_file());
+    if let Some(path) = found.and_then(|path| path.canonicalize().ok()) {
+        println!("cargo:rerun-if-changed={}", path.display());
+    }
     said(Command::new("rt").arg("version")).unwrap_or("unknown".into())
 }
 

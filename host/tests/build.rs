@@ -34,6 +34,10 @@ fn nothing_is_proved_twice() {
     checkout.write("top/target/staticlib/libbalzenoh.a", "another");
     checkout.write("top/crates.txt", &list);
     assert_eq!(calls_after(&CHECK), 6);
+    // Another toolchain.
+    let rt = fs::read_to_string(checkout.path("bin/rt")).expect("the program");
+    checkout.write("bin/rt", &rt.replace("a kit", "another kit"));
+    assert_eq!(calls_after(&CHECK), 8);
 }
 
 #[test]
