@@ -50,8 +50,8 @@ fn staticlib(root: &Path, name: &str, progress: &mut Progress) -> Result<(), Str
 fn run_rt(root: &Path, name: &str, progress: &mut Progress) -> io::Result<ExitStatus> {
     let mut child = Command::new("rt").args(["staticlib", name]).current_dir(root).stderr(Stdio::piped()).spawn()?;
     if let Some(said) = child.stderr.take() {
-        for line in BufReader::new(said).split(b'\n') {
-            let line = String::from_utf8_lossy(&line?).into_owned();
+        for line in BufReader::new(said).split(b'\n').map_while(Result::ok) {
+            let line = String::from_utf8_lossy(&line).into_owned();
             eprintln!("{line}");
             progress.line(&line);
         }

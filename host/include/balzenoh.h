@@ -62,11 +62,16 @@
  *  - libbalzenoh.a is one ELF object for x86-64 today, with the System V calling convention. It is
  *    position-independent, and uses the registers of SSE2 and the red zone below the stack pointer.
  *  - It needs memcpy and memset, and nothing else.
- *  - It has 22,040 bytes of code, 2,016 of constants and no variables. Each function is a section of its
- *    own, so that a linker with --gc-sections leaves out the calls that are not made.
+ *  - Each function is a section of its own, so that a linker with --gc-sections leaves out the calls that
+ *    are not made.
  *  - `rt staticlib balzenoh` in the repository's top folder makes it, with rt, the Rattle toolchain, on
  *    the path; then link it: cc -Ihost/include program.c target/staticlib/libbalzenoh.a
- *  - The stack that each call was seen to use, in bytes from its caller's frame down:
+ *  - Its size, and the stack that each call was seen to use, from its caller's frame down, as
+ *    host/stack/run printed them, in bytes:
+ *
+ *      code      22040
+ *      constants  2016
+ *      variables     0
  *
  *      seal       1696
  *      open       2128
@@ -78,8 +83,8 @@
  *      test       6520
  *      jump       5880
  *
- *    host/stack/run printed these figures, and those of the size. Most of it is used by a jump, which
- *    recurses as often as its distance has binary digits, at most 12 deep. No proof bounds the stack.
+ *    Most of the stack of the last seven is used by a jump, which recurses as often as its distance has
+ *    binary digits, at most 12 deep. No proof bounds the stack.
  *
  * REFUSALS
  *

@@ -78,7 +78,8 @@ macro_rules! sixteen_bytes {
 sixteen_bytes! {
     /// A key of AES-128. Its bytes are not printed, and are wiped at its end.
     ///
-    /// A key that is moved may leave its bytes where it was: keep it in one place, and lend it.
+    /// A key that is moved may leave its bytes where it was: keep it in one place, and lend it. What it was made from is the
+    /// caller's, and nothing wipes that.
     ///
     /// ```
     /// use balzenoh::{Key, Refusal};

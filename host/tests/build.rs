@@ -8,7 +8,7 @@ mod checkout;
 use std::fs;
 use std::process::{Command, Output};
 
-use checkout::{told, Checkout, ARCHIVES, HOST};
+use checkout::{present, told, Checkout, ARCHIVES, HOST};
 
 const CHECK: [&str; 4] = ["check", "--offline", "--quiet", "--lib"];
 
@@ -43,8 +43,7 @@ fn nothing_is_proved_twice() {
 #[test]
 fn the_proof_is_followed_on_the_terminal() {
     let checkout = Checkout::new("terminal");
-    if Command::new("script").arg("--version").output().is_err() {
-        println!("no script program here: skipped");
+    if !present("script") {
         return;
     }
     let cargo = format!("{} {}", env!("CARGO"), CHECK.join(" "));
@@ -85,7 +84,7 @@ fn run_read_only(checkout: &Checkout, command: &str) -> Option<Output> {
         let mount = format!("mount --bind '{top}' '{top}' && mount -o remount,ro,bind '{top}' && cd '{}'", host.display());
         checkout.run("unshare", &["-rm", "sh", "-c", &format!("{mount} && {command}")])
     };
-    let possible = Command::new("unshare").arg("--version").output().is_ok() && read_only("true").status.success();
+    let possible = present("unshare") && read_only("true").status.success();
     possible.then(|| read_only(command))
 }
 
@@ -121,6 +120,9 @@ fn git(checkout: &Checkout, arguments: &[&str]) -> String {
 
 #[test]
 fn the_build_knows_what_was_proved() {
+    if !present("git") {
+        return;
+    }
     let checkout = Checkout::new("identity");
     assert_eq!(proved(&checkout), "commit unknown, toolchain a kit for tests");
     git(&checkout, &["init", "--quiet"]);

@@ -9,16 +9,7 @@ use std::fs;
 use std::path::Path;
 use std::process::{Command, Output};
 
-use checkout::{told, Checkout, ARCHIVES, HOST};
-
-/// Whether a program can be started here; where it cannot, that is said.
-fn present(program: &str) -> bool {
-    let present = Command::new(program).arg("--version").output().is_ok();
-    if !present {
-        println!("no {program} program here: skipped");
-    }
-    present
-}
+use checkout::{present, told, Checkout, ARCHIVES, HOST};
 
 /// Runs a program of the package's folder with the archives of this package.
 fn run(checkout: &Checkout, program: &str, arguments: &[&str]) -> Output {
@@ -55,32 +46,30 @@ fn the_archive_needs_memcpy_and_memset_alone() {
     assert_eq!(needed, ["memcpy", "memset"]);
 }
 
-/// The number behind a name, on a line of its own.
+/// What the program prints figures of.
+const MEASURED: [&str; 12] =
+    ["code", "constants", "variables", "seal", "open", "seal_run", "check_run", "join", "join_list", "close", "test", "jump"];
+
+/// The number behind a name that begins a line.
 fn figure(text: &str, name: &str) -> Option<usize> {
-    let words = text.lines().map(|line| line.trim_start_matches([' ', '*']).split_whitespace().collect::<Vec<_>>());
-    words.into_iter().find_map(|words| if words.first() == Some(&name) { words.get(1)?.parse().ok() } else { None })
+    let lines = text.lines().map(|line| line.trim_start_matches([' ', '*']));
+    let mut values = lines.filter_map(|line| line.strip_prefix(name)).filter_map(|value| value.trim().parse().ok());
+    values.next()
 }
 
 #[test]
-fn no_more_room_is_needed_than_the_pages_say() {
+fn the_library_takes_what_the_pages_say() {
     if !present("gcc") || !present("nm") || !present("size") {
         return;
     }
-    let checkout = Checkout::new("stack");
-    let printed = told(&run(&checkout, "stack/run", &[]));
-    let host = Path::new(HOST);
-    let pages =
-        [host.join("include/balzenoh.h"), host.join("../README.md")].map(|page| fs::read_to_string(page).expect("a page"));
-    for name in ["seal", "open", "seal_run", "check_run", "join", "join_list", "close", "test", "jump"] {
-        let measured = figure(&printed, name).expect("a figure");
-        assert!(measured > 0);
-        for page in &pages {
-            assert!(figure(page, name).is_some_and(|said| measured <= said), "{name} uses {measured} bytes of stack");
+    let printed = told(&run(&Checkout::new("stack"), "stack/run", &[]));
+    for page in ["include/balzenoh.h", "../README.md"] {
+        let text = fs::read_to_string(Path::new(HOST).join(page)).expect("a page");
+        for name in MEASURED {
+            let (measured, said) = (figure(&printed, name).expect("a figure"), figure(&text, name).expect("a figure"));
+            let right = measured <= said && said <= measured + 256;
+            assert!(right, "{page} says {said} for {name}, measured are {measured}: put in what host/stack/run prints");
         }
-    }
-    for name in ["code", "constants", "variables"] {
-        let measured = figure(&printed, name).expect("a figure");
-        assert!(figure(&pages[1], name).is_some_and(|said| measured <= said), "{measured} bytes of {name}");
     }
 }
 

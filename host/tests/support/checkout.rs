@@ -88,6 +88,15 @@ impl Drop for Checkout {
     }
 }
 
+/// Whether a program can be started here; where it cannot, that is said.
+pub fn present(program: &str) -> bool {
+    let present = Command::new(program).arg("--version").output().is_ok();
+    if !present {
+        println!("no {program} program here: skipped");
+    }
+    present
+}
+
 /// What a program that must succeed has said.
 pub fn told(output: &Output) -> String {
     let told = [&output.stdout[..], &output.stderr].concat();
