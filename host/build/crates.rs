@@ -12,7 +12,7 @@ pub fn folder(top: &Path, name: &str) -> PathBuf {
     top.join("crates").join(name)
 }
 
-/// The crates that these are built from, themselves included, each after those below it.
+/// The crates that these are built from, themselves included, in the order in which `rt` proves them for one after the other.
 pub fn needed(top: &Path, names: &[&str]) -> Result<Vec<String>, String> {
     let list = top.join(LIST);
     let text = fs::read_to_string(&list).map_err(|error| format!("{}: {error}.", list.display()))?;
@@ -22,9 +22,10 @@ pub fn needed(top: &Path, names: &[&str]) -> Result<Vec<String>, String> {
         if !below.contains_key(*name) {
             return Err(format!("{} does not list {name}.", list.display()));
         }
+        let known = order.len();
         visit(name, &below, &mut Vec::new(), &mut order);
+        order[known..].sort_by_key(|name| level(name, &below, 0));
     }
-    order.sort_by_key(|name| level(name, &below, 0));
     Ok(order.into_iter().map(str::to_string).collect())
 }
 

@@ -12,13 +12,16 @@ pub struct Progress {
     waiting: Vec<String>,
     crates: usize,
     start: Instant,
+    /// When the last crate was proved.
+    last: Instant,
 }
 
 impl Progress {
     /// The crates stand in the order in which they are proved.
     pub fn new(names: &[String]) -> Self {
         let terminal = OpenOptions::new().write(true).open("/dev/tty").ok();
-        Self { terminal, waiting: names.to_vec(), crates: names.len(), start: Instant::now() }
+        let now = Instant::now();
+        Self { terminal, waiting: names.to_vec(), crates: names.len(), start: now, last: now }
     }
 
     pub fn begin(&mut self) {
@@ -36,11 +39,12 @@ impl Progress {
     }
 
     /// The crate at the top of an archive, of which `rt` tells no time.
-    pub fn archive(&mut self, name: &str, start: Instant) {
-        self.proved(name, &format!("{} s", start.elapsed().as_secs()));
+    pub fn archive(&mut self, name: &str) {
+        self.proved(name, &format!("{} s", self.last.elapsed().as_secs()));
     }
 
     fn proved(&mut self, name: &str, time: &str) {
+        self.last = Instant::now();
         let Some(place) = self.waiting.iter().position(|waiting| waiting == name) else { return };
         self.waiting.remove(place);
         let (done, crates, next) = (self.crates - self.waiting.len(), self.crates, self.next());

@@ -3,7 +3,6 @@
 use std::io::{self, BufRead, BufReader};
 use std::path::{Path, PathBuf};
 use std::process::{Command, ExitStatus, Stdio};
-use std::time::Instant;
 
 use crate::progress::Progress;
 use crate::stamp;
@@ -23,9 +22,8 @@ pub fn archives(root: &Path, archives: &[&str], names: &[String], toolchain: &st
     let mut progress = Progress::new(names);
     progress.begin();
     for name in archives {
-        let start = Instant::now();
         staticlib(root, name, &mut progress)?;
-        progress.archive(name, start);
+        progress.archive(name);
     }
     // Sources that were changed meanwhile are built again next time.
     if stamp::of_sources(root, names, toolchain) == sources {

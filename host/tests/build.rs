@@ -46,10 +46,20 @@ fn the_proof_is_followed_on_the_terminal() {
     if !present("script") {
         return;
     }
+    // The first crate takes a second.
+    let rt = fs::read_to_string(checkout.path("bin/rt")).expect("the program");
+    checkout.write("bin/rt", &rt.replace("for name", "sleep 1.1\nfor name"));
     let cargo = format!("{} {}", env!("CARGO"), CHECK.join(" "));
     let shown = told(&checkout.run("script", &["-qec", &cargo, "/dev/null"]));
-    let expected = ["4 crates to prove", "1 of 4 proved: blocks (7 s); now aes", "2 of 4 proved: aes (7 s); now balzenoh"];
-    for line in expected.into_iter().chain(["3 of 4 proved: balzenoh (", "4 of 4 proved: aes_blocks ("]) {
+    let expected = [
+        "5 crates to prove, which takes some minutes the first time; now blocks",
+        "1 of 5 proved: blocks (7 s); now aes",
+        "2 of 5 proved: aes (7 s); now calls",
+        "3 of 5 proved: calls (7 s); now balzenoh",
+        "4 of 5 proved: balzenoh (0 s); now aes_blocks",
+        "5 of 5 proved: aes_blocks (",
+    ];
+    for line in expected {
         assert!(shown.contains(&format!("balzenoh: {line}")), "{line} is missing: {shown}");
     }
     // Nothing is shown where nothing is proved.

@@ -9,14 +9,14 @@ pub const HOST: &str = env!("CARGO_MANIFEST_DIR");
 /// Where this package has found the archives.
 pub const ARCHIVES: &str = env!("BALZENOH_ARCHIVES");
 
-const CRATES: &str = "blocks:\naes: blocks\nbalzenoh: aes blocks\naes_blocks: aes blocks\nvector: balzenoh io\n";
+const CRATES: &str = "blocks:\naes: blocks\ncalls: aes\nbalzenoh: calls aes\naes_blocks: aes blocks\nvector: balzenoh io\n";
 
 /// Answers `rt version`, and for `rt staticlib` notes the call, says what `rt` says and copies the archive, or an empty one where
 /// it is missing.
 const RT: &str = r#"#!/bin/sh
 [ "$1" = version ] && echo 'a kit for tests' && exit
 echo "$2 in $PWD" >>"$RT_CALLS"
-for name in blocks aes; do
+for name in blocks aes calls; do
     echo "fn $name: proved" >&2
     echo "rt: $name proved (7 s)" >&2
 done
@@ -36,7 +36,7 @@ impl Checkout {
         fs::create_dir_all(checkout.path("bin")).expect("a folder for the test");
         copy_folder(Path::new(HOST), &checkout.path("top/host"));
         checkout.write("top/crates.txt", CRATES);
-        for name in ["blocks", "aes", "balzenoh", "aes_blocks", "vector"] {
+        for name in ["blocks", "aes", "calls", "balzenoh", "aes_blocks", "vector"] {
             checkout.write(&format!("top/crates/{name}/src/lib.rt"), name);
         }
         checkout.write("bin/rt", RT);
