@@ -24,9 +24,9 @@ pub fn needed(top: &Path, names: &[&str]) -> Result<Vec<String>, String> {
         }
         let known = order.len();
         visit(name, &below, &mut Vec::new(), &mut order);
-        order[known..].sort_by_key(|name| level(name, &below, 0));
+        order[known..].sort_by_key(|(_, level)| *level);
     }
-    Ok(order.into_iter().map(str::to_string).collect())
+    Ok(order.into_iter().map(|(name, _)| name.to_string()).collect())
 }
 
 /// Each crate's dependencies. What follows `#` is a comment.
@@ -36,10 +36,13 @@ fn parse(text: &str) -> HashMap<&str, Vec<&str>> {
     entries.map(|(name, below)| (name.trim(), below.split_whitespace().collect())).collect()
 }
 
+/// A crate, and how many stand below each other under it: `rt` proves level by level.
+type Placed<'a> = (&'a str, usize);
+
 /// Adds a crate behind those below it. A library of the toolchain is not in the list, and a crate that is on the way to itself is
 /// left for `rt` to refuse.
-fn visit<'a>(name: &'a str, below: &HashMap<&'a str, Vec<&'a str>>, way: &mut Vec<&'a str>, order: &mut Vec<&'a str>) {
-    if way.contains(&name) || order.contains(&name) {
+fn visit<'a>(name: &'a str, below: &HashMap<&'a str, Vec<&'a str>>, way: &mut Vec<&'a str>, order: &mut Vec<Placed<'a>>) {
+    if way.contains(&name) || order.iter().any(|(known, _)| *known == name) {
         return;
     }
     let Some(next) = below.get(name) else { return };
@@ -48,13 +51,7 @@ fn visit<'a>(name: &'a str, below: &HashMap<&'a str, Vec<&'a str>>, way: &mut Ve
         visit(name, below, way, order);
     }
     way.pop();
-    order.push(name);
-}
-
-/// How many crates stand below each other under this one: `rt` proves level by level.
-fn level(name: &str, below: &HashMap<&str, Vec<&str>>, depth: usize) -> usize {
-    let next = below.get(name).filter(|_| depth <= below.len());
-    let levels =
-        next.into_iter().flatten().filter(|name| below.contains_key(*name)).map(|name| 1 + level(name, below, depth + 1));
-    levels.max().unwrap_or(0)
+    let levels = order.iter().filter(|(known, _)| next.contains(known)).map(|(_, level)| level + 1);
+    let level = levels.max().unwrap_or(0);
+    order.push((name, level));
 }

@@ -107,13 +107,30 @@ fn a_checkout_that_cannot_be_written_is_built_in_cargos_folder() {
         return;
     };
     told(&output);
+    built_in_cargos_folder(&checkout);
+    assert!(!checkout.path("top/target").exists() && !checkout.path("top/probe").exists());
+}
+
+/// The same for every user and on every machine: a file is in the place of the folder.
+#[test]
+fn where_target_is_no_folder_cargos_is_taken() {
+    let checkout = Checkout::new("no-folder");
+    checkout.write("top/target", "a file");
+    checkout.cargo(&CHECK);
+    built_in_cargos_folder(&checkout);
+    // The copy is renewed when the sources change.
+    checkout.write("top/crates/blocks/src/lib.rt", "changed");
+    checkout.cargo(&CHECK);
+    assert_eq!(checkout.calls().len(), 4);
+}
+
+fn built_in_cargos_folder(checkout: &Checkout) {
     let built = fs::canonicalize(checkout.path("built")).expect("cargo's folder");
     let calls = checkout.calls();
     assert_eq!(calls.len(), 2);
     for call in calls {
         assert!(call.contains(&format!(" in {}/", built.display())), "{call}");
     }
-    assert!(!checkout.path("top/target").exists() && !checkout.path("top/probe").exists());
 }
 
 /// What the build says of the proof.
