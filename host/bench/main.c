@@ -1,6 +1,6 @@
 /* The benchmark: times every contestant on the same work, one after the other in each round, and prints the best times as a table.
 
-       bench ROUNDS CHART.svg
+       bench ROUNDS [CHART.svg]
 */
 #define _POSIX_C_SOURCE 200809L
 #include "report.h"
@@ -54,8 +54,8 @@ static void measure_round(struct figures *f) {
 
 int main(int count, char **arguments) {
     static struct figures figures;
-    if (count != 3) {
-        fprintf(stderr, "usage: bench ROUNDS CHART.svg\n");
+    if (count != 2 && count != 3) {
+        fprintf(stderr, "usage: bench ROUNDS [CHART.svg]\n");
         return 2;
     }
     make_sboxes();
@@ -68,7 +68,7 @@ int main(int count, char **arguments) {
         measure_round(&figures);
     print_table(&figures);
     print_expectations(&figures);
-    if (!write_chart(&figures, arguments[2])) {
+    if (count == 3 && !write_chart(&figures, arguments[2])) {
         fprintf(stderr, "cannot write %s\n", arguments[2]);
         return 1;
     }

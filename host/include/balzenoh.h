@@ -55,8 +55,35 @@
  * never written.
  *
  * There is no state, no heap and no initialisation: any call may be made from any thread at any
- * time. Some six kilobytes of stack were seen to be used, most of it by a jump, which recurses as often
- * as its distance has binary digits, at most 12 deep. No proof bounds the stack.
+ * time.
+ *
+ * FOR FIRMWARE
+ *
+ *  - libbalzenoh.a is one ELF object for x86-64 today, with the System V calling convention. It is
+ *    position-independent, and uses the registers of SSE2 and the red zone below the stack pointer.
+ *  - It needs memcpy and memset, and nothing else.
+ *  - Each function is a section of its own, so that a linker with --gc-sections leaves out the calls that
+ *    are not made.
+ *  - `rt staticlib balzenoh` in the repository's top folder makes it, with rt, the Rattle toolchain, on
+ *    the path; then link it: cc -Ihost/include program.c target/staticlib/libbalzenoh.a
+ *  - Its size, and the stack that each call was seen to use, from its caller's frame down, as
+ *    host/stack/run printed them, in bytes:
+ *
+ *      code      22316
+ *      constants  2016
+ *      variables     0
+ *
+ *      seal       1696
+ *      open       2128
+ *      seal_run   1712
+ *      check_run  1728
+ *      join        656
+ *      join_list   656
+ *      close      1712
+ *      test       1696
+ *      jump        576
+ *
+ *    No function recurses. No proof bounds the stack.
  *
  * REFUSALS
  *

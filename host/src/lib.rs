@@ -23,6 +23,8 @@
 //! # Ok::<(), Refusal>(())
 //! ```
 //!
+//! A [`Key`] and the pre-authenticator of a [`RunRecord`] are not printed, and are wiped at their end.
+//!
 //! | call | on typed values | on plain slices |
 //! |---|---|---|
 //! | seal a list | [`seal`], [`seal_into`], [`seal_in_runs`] | [`raw::seal`] |
@@ -35,6 +37,7 @@
 //! | jump a mask | [`jump`] | [`raw::jump`] |
 
 #![deny(unsafe_code)]
+#![warn(missing_docs)]
 
 mod abi;
 #[allow(unsafe_code)]
@@ -49,10 +52,12 @@ pub mod sizes;
 mod spread;
 mod values;
 mod whole;
+#[allow(unsafe_code)]
+mod wipe;
 
 pub use mask::jump;
 pub use record::{close, join_list, test, RunRecord};
-pub use refusal::Refusal;
+pub use refusal::{Refusal, UnknownNumber};
 pub use run::{check_run, seal_run, seal_run_into, Kind};
 pub use spread::{check_in_runs, seal_in_runs};
 pub use values::{Iv, Key, Tag};

@@ -2,21 +2,66 @@
 //!
 //! Nothing is checked here: a key of 15 bytes goes to the library, and the library refuses it. On success the answer stands at
 //! the start of the lent output and zeros follow to its end. On a refusal every lent output is zero from end to end.
+//!
+//! Where several refusals hold, the one that a call names first is given.
 
 use crate::ffi;
 use crate::refusal::Refusal;
 
 /// Seals a whole message. The answer is IV, ciphertext and tag; its length is returned.
+///
+/// # Errors
+///
+/// [`KeyLength`](Refusal::KeyLength), [`IvLength`](Refusal::IvLength), [`Length`](Refusal::Length) for a message above 63,999
+/// bytes, [`OutputTooShort`](Refusal::OutputTooShort).
+///
+/// ```
+/// use balzenoh::{raw, Refusal};
+///
+/// let mut out = [0xA5; 48];
+/// assert_eq!(raw::seal(&[7; 16], &[1; 16], b"cage 12", &mut out), Ok(48));
+/// assert_eq!(raw::seal(&[7; 15], &[1; 16], b"cage 12", &mut out), Err(Refusal::KeyLength));
+/// assert_eq!(out, [0; 48]);
+/// ```
 pub fn seal(key: &[u8], iv: &[u8], message: &[u8], out: &mut [u8]) -> Result<usize, Refusal> {
     with_length(ffi::seal(key, iv, message, out))
 }
 
 /// Opens a sealed record. `out` must have room for the whole ciphertext; the message's length is returned.
+///
+/// # Errors
+///
+/// [`KeyLength`](Refusal::KeyLength), [`Length`](Refusal::Length) for a record below 48 bytes, above 64,032 or no multiple of 16,
+/// [`OutputTooShort`](Refusal::OutputTooShort), [`TagDiffers`](Refusal::TagDiffers), [`Padding`](Refusal::Padding).
+///
+/// ```
+/// use balzenoh::{raw, Refusal};
+///
+/// let (mut sealed, mut out) = ([0; 48], [0xA5; 16]);
+/// raw::seal(&[7; 16], &[1; 16], b"cage 12", &mut sealed)?;
+/// assert_eq!(raw::open(&[7; 16], &sealed, &mut out), Ok(7));
+/// assert_eq!(out, *b"cage 12\0\0\0\0\0\0\0\0\0");
+/// # Ok::<(), Refusal>(())
+/// ```
 pub fn open(key: &[u8], sealed: &[u8], out: &mut [u8]) -> Result<usize, Refusal> {
     with_length(ffi::open(key, sealed, out))
 }
 
 /// Seals a run of blocks. The ciphertext goes to `out`, its length is returned, and the run's record goes to `run`.
+///
+/// # Errors
+///
+/// [`KeyLength`](Refusal::KeyLength), [`IvLength`](Refusal::IvLength), [`Length`](Refusal::Length) for a run that is not the last
+/// and no multiple of 16 bytes, [`BeyondLimit`](Refusal::BeyondLimit), [`OutputTooShort`](Refusal::OutputTooShort) for either
+/// output.
+///
+/// ```
+/// use balzenoh::raw;
+///
+/// let (mut out, mut run) = ([0; 16], [0; 24]);
+/// assert_eq!(raw::seal_run(&[7; 16], &[1; 16], 5, true, b"cage 12", &mut out, &mut run), Ok(16));
+/// assert_eq!(run[..8], [0, 0, 0, 5, 0, 0, 0, 1]);
+/// ```
 pub fn seal_run(
     key: &[u8],
     iv: &[u8],
@@ -30,31 +75,127 @@ pub fn seal_run(
 }
 
 /// Checks a run of ciphertext: `run` gets the record that sealing the run would give.
+///
+/// # Errors
+///
+/// [`KeyLength`](Refusal::KeyLength), [`IvLength`](Refusal::IvLength), [`Length`](Refusal::Length) for a run that is no multiple
+/// of 16 bytes, [`BeyondLimit`](Refusal::BeyondLimit), [`OutputTooShort`](Refusal::OutputTooShort).
+///
+/// ```
+/// use balzenoh::{raw, Refusal};
+///
+/// let (mut out, mut sealed, mut checked) = ([0; 16], [0; 24], [0; 24]);
+/// raw::seal_run(&[7; 16], &[1; 16], 5, true, b"cage 12", &mut out, &mut sealed)?;
+/// raw::check_run(&[7; 16], &[1; 16], 5, &out, &mut checked)?;
+/// assert_eq!(checked, sealed);
+/// # Ok::<(), Refusal>(())
+/// ```
 pub fn check_run(key: &[u8], iv: &[u8], first: u32, ciphertext: &[u8], run: &mut [u8]) -> Result<(), Refusal> {
     refused(ffi::check_run(key, iv, first, ciphertext, run))
 }
 
 /// Joins the records of two runs, the second of which starts where the first one ends.
+///
+/// # Errors
+///
+/// [`RecordLength`](Refusal::RecordLength), [`BeyondLimit`](Refusal::BeyondLimit), [`NotNeighbours`](Refusal::NotNeighbours),
+/// [`OutputTooShort`](Refusal::OutputTooShort).
+///
+/// ```
+/// use balzenoh::{raw, Refusal};
+///
+/// let (mut left, mut right, mut joined) = ([0; 24], [0; 24], [0; 24]);
+/// raw::check_run(&[7; 16], &[1; 16], 0, &[0; 16], &mut left)?;
+/// raw::check_run(&[7; 16], &[1; 16], 1, &[0; 32], &mut right)?;
+/// raw::join(&left, &right, &mut joined)?;
+/// assert_eq!(joined[..8], [0, 0, 0, 0, 0, 0, 0, 3]);
+/// # Ok::<(), Refusal>(())
+/// ```
 pub fn join(left: &[u8], right: &[u8], run: &mut [u8]) -> Result<(), Refusal> {
     refused(ffi::join(left, right, run))
 }
 
 /// Joins records, their bytes one after the other, in message order.
+///
+/// # Errors
+///
+/// [`RecordLength`](Refusal::RecordLength) for bytes that are no multiple of 24, [`BeyondLimit`](Refusal::BeyondLimit),
+/// [`NotNeighbours`](Refusal::NotNeighbours), [`NotWhole`](Refusal::NotWhole) for no record at all,
+/// [`OutputTooShort`](Refusal::OutputTooShort).
+///
+/// ```
+/// use balzenoh::{raw, Refusal};
+///
+/// let (mut records, mut joined) = ([0; 48], [0; 24]);
+/// raw::check_run(&[7; 16], &[1; 16], 0, &[0; 16], &mut records[..24])?;
+/// raw::check_run(&[7; 16], &[1; 16], 1, &[0; 32], &mut records[24..])?;
+/// raw::join_list(&records, &mut joined)?;
+/// assert_eq!(joined[..8], [0, 0, 0, 0, 0, 0, 0, 3]);
+/// # Ok::<(), Refusal>(())
+/// ```
 pub fn join_list(records: &[u8], run: &mut [u8]) -> Result<(), Refusal> {
     refused(ffi::join_list(records, run))
 }
 
 /// Closes the record of a whole message into its tag.
+///
+/// # Errors
+///
+/// [`RecordLength`](Refusal::RecordLength), [`KeyLength`](Refusal::KeyLength), [`IvLength`](Refusal::IvLength),
+/// [`BeyondLimit`](Refusal::BeyondLimit), [`NotWhole`](Refusal::NotWhole), [`OutputTooShort`](Refusal::OutputTooShort).
+///
+/// ```
+/// use balzenoh::{raw, Refusal};
+///
+/// let (mut sealed, mut run, mut tag) = ([0; 48], [0; 24], [0; 16]);
+/// raw::seal(&[7; 16], &[1; 16], b"cage 12", &mut sealed)?;
+/// raw::check_run(&[7; 16], &[1; 16], 0, &sealed[16..32], &mut run)?;
+/// raw::close(&[7; 16], &[1; 16], &run, &mut tag)?;
+/// assert_eq!(tag, sealed[32..]);
+/// # Ok::<(), Refusal>(())
+/// ```
 pub fn close(key: &[u8], iv: &[u8], run: &[u8], tag: &mut [u8]) -> Result<(), Refusal> {
     refused(ffi::close(key, iv, run, tag))
 }
 
 /// Tests a tag against the record of a whole message.
+///
+/// # Errors
+///
+/// [`RecordLength`](Refusal::RecordLength), [`KeyLength`](Refusal::KeyLength), [`IvLength`](Refusal::IvLength),
+/// [`Length`](Refusal::Length) for a tag that is not 16 bytes, [`BeyondLimit`](Refusal::BeyondLimit),
+/// [`NotWhole`](Refusal::NotWhole), [`TagDiffers`](Refusal::TagDiffers).
+///
+/// ```
+/// use balzenoh::{raw, Refusal};
+///
+/// let (mut sealed, mut run) = ([0; 48], [0; 24]);
+/// raw::seal(&[7; 16], &[1; 16], b"cage 12", &mut sealed)?;
+/// raw::check_run(&[7; 16], &[1; 16], 0, &sealed[16..32], &mut run)?;
+/// assert_eq!(raw::test(&[7; 16], &[1; 16], &run, &sealed[32..]), Ok(()));
+/// assert_eq!(raw::test(&[7; 16], &[1; 16], &run, &[0; 16]), Err(Refusal::TagDiffers));
+/// # Ok::<(), Refusal>(())
+/// ```
 pub fn test(key: &[u8], iv: &[u8], run: &[u8], tag: &[u8]) -> Result<(), Refusal> {
     refused(ffi::test(key, iv, run, tag))
 }
 
 /// Jumps a mask forward by a number of blocks.
+///
+/// # Errors
+///
+/// [`Length`](Refusal::Length) for a mask that is not 16 bytes, [`BeyondLimit`](Refusal::BeyondLimit) for a number above 4,000,
+/// [`OutputTooShort`](Refusal::OutputTooShort).
+///
+/// ```
+/// use balzenoh::{raw, Refusal};
+///
+/// let mut out = [0xA5; 16];
+/// assert_eq!(raw::jump(&[9; 16], 0, &mut out), Ok(()));
+/// assert_eq!(out, [9; 16]);
+/// assert_eq!(raw::jump(&[9; 16], 4_001, &mut out), Err(Refusal::BeyondLimit));
+/// assert_eq!(out, [0; 16]);
+/// ```
 pub fn jump(mask: &[u8], distance: u32, out: &mut [u8]) -> Result<(), Refusal> {
     refused(ffi::jump(mask, distance, out))
 }

@@ -3,7 +3,15 @@
 use std::fmt;
 
 /// The reason for which a call was refused: a row of the table of refusals.
-#[derive(Clone, Copy, Debug, PartialEq, Eq)]
+///
+/// ```
+/// use balzenoh::{Key, Refusal};
+///
+/// let refusal = Key::from_slice(&[7; 15]).unwrap_err();
+/// assert_eq!(refusal, Refusal::KeyLength);
+/// assert!(refusal.to_string().starts_with("refusal 1: The key is not 16 bytes long."));
+/// ```
+#[derive(Clone, Copy, Debug, PartialEq, Eq, Hash)]
 pub enum Refusal {
     /// 1: the key is not 16 bytes.
     KeyLength,
@@ -26,8 +34,19 @@ pub enum Refusal {
     /// 24: a run record is not 24 bytes.
     RecordLength,
     /// A number that the library does not have. It is never expected.
-    Unknown(u8),
+    Unknown(UnknownNumber),
 }
+
+/// A number that stands in no row of the table. Only [`Refusal::from_number`] makes one, so that it is none of those.
+///
+/// ```compile_fail
+/// let refusal = balzenoh::Refusal::Unknown(6);
+/// ```
+/// ```compile_fail
+/// let number = balzenoh::UnknownNumber(6);
+/// ```
+#[derive(Clone, Copy, Debug, PartialEq, Eq, Hash)]
+pub struct UnknownNumber(u8);
 
 /// Number, refusal, and the sentence for a technician at the machine: what was wrong and what to look at.
 const TABLE: [(u8, Refusal, &str); 10] = [
@@ -100,23 +119,41 @@ const UNKNOWN: &str =
 
 impl Refusal {
     /// The refusal with a number of the library. 0 is no refusal, and comes out as unknown.
+    ///
+    /// ```
+    /// use balzenoh::Refusal;
+    ///
+    /// assert_eq!(Refusal::from_number(6), Refusal::TagDiffers);
+    /// assert!(matches!(Refusal::from_number(10), Refusal::Unknown(_)));
+    /// ```
     pub fn from_number(number: u8) -> Self {
         let row = TABLE.iter().find(|(known, ..)| *known == number);
-        row.map_or(Self::Unknown(number), |(_, refusal, _)| *refusal)
+        row.map_or(Self::Unknown(UnknownNumber(number)), |(_, refusal, _)| *refusal)
     }
 
     /// The number in the table of refusals.
+    ///
+    /// ```
+    /// use balzenoh::Refusal;
+    ///
+    /// assert_eq!(Refusal::TagDiffers.number(), 6);
+    /// assert_eq!(Refusal::from_number(10).number(), 10);
+    /// ```
     pub fn number(self) -> u8 {
         self.row().0
     }
 
     /// What was wrong and what to look at, for a technician at the machine.
+    ///
+    /// ```
+    /// assert!(balzenoh::Refusal::TagDiffers.sentence().contains("Do not use this list"));
+    /// ```
     pub fn sentence(self) -> &'static str {
         self.row().1
     }
 
     fn row(self) -> (u8, &'static str) {
-        if let Self::Unknown(number) = self {
+        if let Self::Unknown(UnknownNumber(number)) = self {
             return (number, UNKNOWN);
         }
         let row = TABLE.iter().find(|(_, refusal, _)| *refusal == self);

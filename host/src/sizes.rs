@@ -12,11 +12,23 @@ pub const LONGEST_MESSAGE: usize = LIMIT * BLOCK - 1;
 pub const AROUND: usize = 2 * BLOCK;
 
 /// The number of blocks of a message of this length, with its padding.
+///
+/// ```
+/// use balzenoh::sizes::padded_blocks;
+///
+/// assert_eq!([0, 15, 16].map(padded_blocks), [1, 1, 2]);
+/// ```
 pub const fn padded_blocks(length: usize) -> usize {
     length / BLOCK + 1
 }
 
 /// The room that the sealed record of a message needs. A message over the limit gets no room: it is refused with any.
+///
+/// ```
+/// use balzenoh::sizes::sealed_room;
+///
+/// assert_eq!([0, 16, 63_999, 64_000].map(sealed_room), [48, 64, 64_032, 0]);
+/// ```
 pub const fn sealed_room(message: usize) -> usize {
     if message > LONGEST_MESSAGE {
         return 0;
@@ -25,6 +37,12 @@ pub const fn sealed_room(message: usize) -> usize {
 }
 
 /// The room that opening a sealed record needs: that of its ciphertext. A record over the limit gets no room.
+///
+/// ```
+/// use balzenoh::sizes::open_room;
+///
+/// assert_eq!([0, 48, 64_032, 64_048].map(open_room), [0, 16, 64_000, 0]);
+/// ```
 pub const fn open_room(sealed: usize) -> usize {
     if sealed > LIMIT * BLOCK + AROUND {
         return 0;
@@ -33,6 +51,12 @@ pub const fn open_room(sealed: usize) -> usize {
 }
 
 /// The room that the ciphertext of a run needs. A run over the limit gets no room.
+///
+/// ```
+/// use balzenoh::sizes::run_room;
+///
+/// assert_eq!([run_room(32, false), run_room(32, true), run_room(64_000, true)], [32, 48, 0]);
+/// ```
 pub const fn run_room(length: usize, last: bool) -> usize {
     let blocks = if last { padded_blocks(length) } else { length / BLOCK };
     if blocks > LIMIT {

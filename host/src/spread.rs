@@ -1,10 +1,14 @@
 //! One list spread over several threads.
 //!
-//! The list is cut into runs of whole blocks. Each thread takes a share of the runs and seals them straight into their places in
+//! The list is cut into runs of whole blocks. Each thread takes one run after the other and seals it straight into its place in
 //! one output. The records are then joined and closed. It is proved of the library that no cut makes a difference.
+//!
+//! A thread that cannot be started is done without: the others, of which the calling one is always there, take its runs.
 
 use std::ops::Range;
-use std::thread;
+use std::panic::resume_unwind;
+use std::sync::{Mutex, PoisonError};
+use std::thread::{self, Builder};
 
 use crate::record::{close, join_list, test, RunRecord};
 use crate::refusal::Refusal;
@@ -14,7 +18,19 @@ use crate::values::{Iv, Key, Tag};
 
 /// Seals a message in runs, on threads, and gives the very bytes of [`seal`](crate::seal).
 ///
-/// There are at most as many runs as blocks and as many threads as runs, and at least one of each. The calling thread is one.
+/// There are at most as many runs as blocks and as many threads as runs, and at least one of each. The calling thread is one;
+/// where others cannot be started there are fewer.
+///
+/// # Errors
+///
+/// [`Refusal::Length`] for a message above 63,999 bytes.
+///
+/// ```
+/// use balzenoh::{seal, seal_in_runs, Iv, Key};
+///
+/// let (key, iv, list) = (Key::from([7; 16]), Iv::from([1; 16]), b"parcel 4711 -> cage 12");
+/// assert_eq!(seal_in_runs(&key, &iv, list, 2, 2), seal(&key, &iv, list));
+/// ```
 pub fn seal_in_runs(key: &Key, iv: &Iv, message: &[u8], runs: usize, threads: usize) -> Result<Vec<u8>, Refusal> {
     if message.len() > LONGEST_MESSAGE {
         return Err(Refusal::Length);
@@ -33,7 +49,22 @@ pub fn seal_in_runs(key: &Key, iv: &Iv, message: &[u8], runs: usize, threads: us
 }
 
 /// Checks a sealed record in runs, on threads. It passes where [`open`](crate::open) gives a message, or refuses for the padding
-/// alone ([`Refusal::Padding`]): checking sees no plaintext.
+/// alone ([`Refusal::Padding`]): checking sees no plaintext. Runs and threads are as many as in [`seal_in_runs`].
+///
+/// # Errors
+///
+/// [`Refusal::Length`] for a record that is below 48 bytes, above 64,032 or no multiple of 16, [`Refusal::TagDiffers`] where it is
+/// not as it was sealed or the key is another one.
+///
+/// ```
+/// use balzenoh::{check_in_runs, seal, Iv, Key, Refusal};
+///
+/// let key = Key::from([7; 16]);
+/// let sealed = seal(&key, &Iv::from([1; 16]), b"parcel 4711 -> cage 12")?;
+/// assert_eq!(check_in_runs(&key, &sealed, 2, 2), Ok(()));
+/// assert_eq!(check_in_runs(&Key::from([8; 16]), &sealed, 2, 2), Err(Refusal::TagDiffers));
+/// # Ok::<(), Refusal>(())
+/// ```
 pub fn check_in_runs(key: &Key, sealed: &[u8], runs: usize, threads: usize) -> Result<(), Refusal> {
     let blocks = (sealed.len() / BLOCK).saturating_sub(AROUND / BLOCK);
     if !sealed.len().is_multiple_of(BLOCK) || blocks == 0 || blocks > LIMIT {
@@ -84,15 +115,19 @@ fn share_out<J: Send>(
     threads: usize,
     work: impl Fn(&mut J) -> Result<RunRecord, Refusal> + Sync,
 ) -> Result<Vec<RunRecord>, Refusal> {
-    let share = jobs.len().div_ceil(threads.max(1));
-    let do_share = |jobs: &mut [J]| jobs.iter_mut().map(&work).collect::<Result<Vec<_>, _>>();
-    let (own, others) = jobs.split_at_mut(share);
-    thread::scope(|scope| {
-        let others: Vec<_> = others.chunks_mut(share).map(|jobs| scope.spawn(move || do_share(jobs))).collect();
-        let mut records = do_share(own)?;
-        for other in others {
-            records.extend(other.join().expect("a run's thread ended early")?);
+    let others = threads.min(jobs.len()).saturating_sub(1);
+    let waiting = Mutex::new(jobs.iter_mut().enumerate());
+    let next = || waiting.lock().unwrap_or_else(PoisonError::into_inner).next();
+    let take_jobs = || std::iter::from_fn(next).map(|(place, job)| (place, work(job))).collect::<Vec<_>>();
+    let mut done = thread::scope(|scope| {
+        let start = |_| Builder::new().spawn_scoped(scope, take_jobs).ok();
+        let started: Vec<_> = (0..others).map_while(start).collect();
+        let mut done = take_jobs();
+        for thread in started {
+            done.extend(thread.join().unwrap_or_else(|panic| resume_unwind(panic)));
         }
-        Ok(records)
-    })
+        done
+    });
+    done.sort_by_key(|(place, _)| *place);
+    done.into_iter().map(|(_, record)| record).collect()
 }

@@ -6,6 +6,19 @@ use crate::sizes::{open_room, sealed_room};
 use crate::values::{Iv, Key};
 
 /// Seals a message of up to 63,999 bytes. The sealed record is the IV, the ciphertext and the tag.
+///
+/// # Errors
+///
+/// [`Refusal::Length`] for a longer message.
+///
+/// ```
+/// use balzenoh::{seal, Iv, Key, Refusal};
+///
+/// let (key, iv) = (Key::from([7; 16]), Iv::from([1; 16]));
+/// assert_eq!(seal(&key, &iv, b"parcel 4711 -> cage 12")?.len(), 16 + 32 + 16);
+/// assert_eq!(seal(&key, &iv, &[0; 64_000]), Err(Refusal::Length));
+/// # Ok::<(), Refusal>(())
+/// ```
 pub fn seal(key: &Key, iv: &Iv, message: &[u8]) -> Result<Vec<u8>, Refusal> {
     let mut out = vec![0; sealed_room(message.len())];
     let length = seal_into(key, iv, message, &mut out)?;
@@ -14,11 +27,43 @@ pub fn seal(key: &Key, iv: &Iv, message: &[u8]) -> Result<Vec<u8>, Refusal> {
 }
 
 /// Seals into a lent output and returns the sealed record's length. All bytes beyond it are zero; on a refusal all are.
+///
+/// # Errors
+///
+/// [`Refusal::Length`] for a message above 63,999 bytes, [`Refusal::OutputTooShort`] for an output below
+/// [`sealed_room`](crate::sizes::sealed_room) of it.
+///
+/// ```
+/// use balzenoh::{seal_into, Iv, Key, Refusal};
+///
+/// let (key, iv) = (Key::from([7; 16]), Iv::from([1; 16]));
+/// let mut out = [0xA5; 100];
+/// assert_eq!(seal_into(&key, &iv, b"parcel 4711 -> cage 12", &mut out), Ok(64));
+/// assert_eq!(out[64..], [0; 36]);
+/// assert_eq!(seal_into(&key, &iv, b"parcel 4711 -> cage 12", &mut out[..63]), Err(Refusal::OutputTooShort));
+/// assert_eq!(out[..63], [0; 63]);
+/// ```
 pub fn seal_into(key: &Key, iv: &Iv, message: &[u8], out: &mut [u8]) -> Result<usize, Refusal> {
     raw::seal(key.as_bytes(), iv.as_bytes(), message, out)
 }
 
 /// Opens a sealed record.
+///
+/// # Errors
+///
+/// [`Refusal::Length`] for a record that is below 48 bytes, above 64,032 or no multiple of 16, [`Refusal::TagDiffers`] where it is
+/// not as it was sealed or the key is another one, [`Refusal::Padding`] where the message does not end as messages do.
+///
+/// ```
+/// use balzenoh::{open, seal, Iv, Key, Refusal};
+///
+/// let key = Key::from([7; 16]);
+/// let mut sealed = seal(&key, &Iv::from([1; 16]), b"parcel 4711 -> cage 12")?;
+/// assert_eq!(open(&key, &sealed)?, b"parcel 4711 -> cage 12");
+/// sealed[20] ^= 1;
+/// assert_eq!(open(&key, &sealed), Err(Refusal::TagDiffers));
+/// # Ok::<(), Refusal>(())
+/// ```
 pub fn open(key: &Key, sealed: &[u8]) -> Result<Vec<u8>, Refusal> {
     let mut out = vec![0; open_room(sealed.len())];
     let length = open_into(key, sealed, &mut out)?;
@@ -28,6 +73,22 @@ pub fn open(key: &Key, sealed: &[u8]) -> Result<Vec<u8>, Refusal> {
 
 /// Opens into a lent output, which needs room for the whole ciphertext, and returns the message's length. All bytes beyond it are
 /// zero; on a refusal all are.
+///
+/// # Errors
+///
+/// Those of [`open`], and [`Refusal::OutputTooShort`] for an output shorter than the ciphertext.
+///
+/// ```
+/// use balzenoh::{open_into, seal, Iv, Key, Refusal};
+///
+/// let key = Key::from([7; 16]);
+/// let sealed = seal(&key, &Iv::from([1; 16]), b"parcel 4711 -> cage 12")?;
+/// let mut out = [0xA5; 32];
+/// assert_eq!(open_into(&key, &sealed, &mut out), Ok(22));
+/// assert_eq!(open_into(&Key::from([8; 16]), &sealed, &mut out), Err(Refusal::TagDiffers));
+/// assert_eq!(out, [0; 32]);
+/// # Ok::<(), Refusal>(())
+/// ```
 pub fn open_into(key: &Key, sealed: &[u8], out: &mut [u8]) -> Result<usize, Refusal> {
     raw::open(key.as_bytes(), sealed, out)
 }

@@ -111,7 +111,7 @@ fn seal_one(key: &Key, iv: &Iv, list: &[u8], run: usize) -> Result<Sealed, Refus
 
 /// IV, ciphertexts and the tag of the joined records.
 fn put_together(key: &Key, iv: &Iv, runs: &[Sealed]) -> Result<Vec<u8>, Refusal> {
-    let records: Vec<_> = runs.iter().map(|(_, record)| *record).collect();
+    let records: Vec<_> = runs.iter().map(|(_, record)| record.clone()).collect();
     let tag = close(key, iv, &join_list(&records)?)?;
     let ciphertexts: Vec<u8> = runs.iter().flat_map(|(ciphertext, _)| ciphertext.clone()).collect();
     Ok([iv.as_bytes(), &ciphertexts[..], tag.as_bytes()].concat())
@@ -136,7 +136,7 @@ fn damaged(story: &mut Story, key: &Key, sealed: &[u8]) {
 fn run_left_out(story: &mut Story, key: &Key, iv: &Iv, sealed: &[u8], runs: &[Sealed]) {
     let mut left = runs.to_vec();
     left.remove(3);
-    let records: Vec<_> = left.iter().map(|(_, record)| *record).collect();
+    let records: Vec<_> = left.iter().map(|(_, record)| record.clone()).collect();
     story.tell("\nThe record of one run left out:");
     refused(story, join_list(&records), Refusal::NotNeighbours);
     let ciphertexts: Vec<u8> = left.into_iter().flat_map(|(ciphertext, _)| ciphertext).collect();

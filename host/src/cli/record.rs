@@ -19,7 +19,7 @@ pub fn join(args: &Args, outputs: &Outputs) -> Result<(), Failure> {
     for operand in args.operands() {
         records.push(RunRecord::from_bytes(&input::short_value("RECORD", operand, RECORD)?)?);
     }
-    let joined = match records[..] {
+    let joined = match &records[..] {
         [left, right] => left.join(right)?,
         _ => join_list(&records)?,
     };

@@ -6,16 +6,21 @@
 #[path = "../support/mod.rs"]
 mod support;
 
+#[cfg(bare_cipher)]
 mod bare_cipher;
 mod c_interface;
 mod closing;
 mod cuts;
 mod damage;
+mod documentation;
 mod joining;
 mod jumping;
+#[cfg(not(bare_cipher))]
+mod no_bare_cipher;
 mod opening;
 mod runs;
 mod sealing;
+mod secrets;
 mod spread;
 mod typed;
 mod vectors;

@@ -1,5 +1,8 @@
 //! A list spread over threads gives the very bytes, and the very refusals, of the whole calls.
 
+use std::env;
+use std::process::Command;
+
 use balzenoh::{check_in_runs, open, seal, seal_in_runs, Iv, Key, Refusal};
 
 use crate::support::random::Random;
@@ -44,4 +47,21 @@ fn checked_in_runs_as_opened_whole() {
         let opened = open(&key, &sealed).map(|_| ());
         assert_eq!(check_in_runs(&key, &sealed, 3, 2), opened, "{length} bytes");
     }
+}
+
+/// Both tests above, in a process that can start no thread: no stack of this size fits into memory.
+#[test]
+fn where_no_thread_can_be_started_the_caller_does_it_all() {
+    let output = Command::new(env::current_exe().expect("this program"))
+        .args([
+            "--exact",
+            "--test-threads=1",
+            "spread::sealed_in_runs_as_sealed_whole",
+            "spread::checked_in_runs_as_opened_whole",
+        ])
+        .env("RUST_MIN_STACK", (1_u64 << 47).to_string())
+        .output()
+        .expect("this program starts");
+    let told = String::from_utf8_lossy(&output.stdout);
+    assert!(output.status.success() && told.contains("2 passed"), "{told}");
 }

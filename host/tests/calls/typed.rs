@@ -1,6 +1,8 @@
 //! The functions on typed values: they are the calls on slices, with the room that is needed.
 
-use balzenoh::{check_run, close, join_list, jump, open, open_into, raw, seal, seal_into, seal_run, test};
+use std::collections::HashSet;
+
+use balzenoh::{check_run, close, hex, join_list, jump, open, open_into, raw, seal, seal_into, seal_run, test};
 use balzenoh::{Iv, Key, Kind, Refusal, RunRecord, Tag};
 
 use crate::support::random::Random;
@@ -57,8 +59,8 @@ fn runs_are_those_of_the_slices() {
             let given = seal_run(&key, &iv, first, kind, &bytes);
             assert_eq!(given, expected);
             if let Ok((ciphertext, record)) = given {
-                assert_eq!(check_run(&key, &iv, first, &ciphertext), Ok(record));
                 assert_eq!(record.to_bytes(), run);
+                assert_eq!(check_run(&key, &iv, first, &ciphertext), Ok(record));
             }
         }
     }
@@ -72,12 +74,52 @@ fn records_join_close_and_pass() {
     let sealed = seal(&key, &iv, &message).expect("within the limit");
     let (_, left) = seal_run(&key, &iv, 0, Kind::Middle, &message[..32]).expect("two blocks");
     let (_, right) = seal_run(&key, &iv, 2, Kind::Last, &message[32..]).expect("three blocks");
-    let whole = left.join(right).expect("neighbours");
-    assert_eq!(join_list(&[left, right]), Ok(whole));
-    assert_eq!(right.join(left), Err(Refusal::NotNeighbours));
+    let whole = left.join(&right).expect("neighbours");
+    assert_eq!(join_list(&[left.clone(), right.clone()]), Ok(whole.clone()));
+    assert_eq!(right.join(&left), Err(Refusal::NotNeighbours));
     let tag = close(&key, &iv, &whole).expect("a whole record");
     assert_eq!(sealed[sealed.len() - 16..], tag.as_bytes()[..]);
     assert_eq!(test(&key, &iv, &whole, &tag), Ok(()));
     assert_eq!(test(&key, &iv, &whole, &Tag::from([0; 16])), Err(Refusal::TagDiffers));
     assert_eq!(close(&key, &iv, &right), Err(Refusal::NotWhole));
+}
+
+/// Slices and digits of every length: the right one gives the value, any other the refusal of its length.
+#[test]
+fn values_are_made_from_slices_and_digits() {
+    let mut random = Random::new(45);
+    for length in 0..=40 {
+        let bytes = random.bytes(length);
+        let given = |right: usize, refusal| if length == right { Ok(bytes.clone()) } else { Err(refusal) };
+        let (slice, digits) = (&bytes[..], hex::encode(&bytes));
+        for text in [&digits[..], &digits.to_lowercase()] {
+            assert_eq!(text.parse::<Key>().map(|key| key.as_ref().to_vec()), given(16, Refusal::KeyLength));
+            assert_eq!(text.parse::<Iv>().map(|iv| iv.as_ref().to_vec()), given(16, Refusal::IvLength));
+            assert_eq!(text.parse::<Tag>().map(|tag| tag.as_ref().to_vec()), given(16, Refusal::Length));
+            assert_eq!(text.parse::<RunRecord>().map(|record| record.to_bytes().to_vec()), given(24, Refusal::RecordLength));
+        }
+        assert_eq!(Key::try_from(slice).map(|key| key.as_ref().to_vec()), given(16, Refusal::KeyLength));
+        assert_eq!(Iv::try_from(slice).map(|iv| iv.as_ref().to_vec()), given(16, Refusal::IvLength));
+        assert_eq!(Tag::try_from(slice).map(|tag| tag.as_ref().to_vec()), given(16, Refusal::Length));
+        assert_eq!(RunRecord::try_from(slice).map(|record| record.to_bytes().to_vec()), given(24, Refusal::RecordLength));
+    }
+}
+
+#[test]
+fn text_that_is_no_digits_is_no_value() {
+    for text in ["0".repeat(31), "0".repeat(33), "G".repeat(32), format!(" {}", "0".repeat(31)), "é".repeat(16)] {
+        assert_eq!(text.parse::<Key>().unwrap_err(), Refusal::KeyLength, "{text:?}");
+        assert_eq!(text.parse::<Iv>().unwrap_err(), Refusal::IvLength, "{text:?}");
+        assert_eq!(text.parse::<Tag>().unwrap_err(), Refusal::Length, "{text:?}");
+        assert_eq!(text.parse::<RunRecord>().unwrap_err(), Refusal::RecordLength, "{text:?}");
+    }
+}
+
+#[test]
+fn public_values_are_copied_and_refusals_counted() {
+    let (iv, tag) = (Iv::from([1; 16]), Tag::from([2; 16]));
+    let (same_iv, same_tag) = (iv, tag);
+    assert_eq!((iv, tag), (same_iv, same_tag));
+    let refusals: HashSet<Refusal> = (0..=255).map(Refusal::from_number).collect();
+    assert_eq!(refusals.len(), 256);
 }

@@ -102,7 +102,7 @@ fn the_library_meets_the_papers_vectors() {
     let (c2, right) = seal_run(&key, &iv, 1, Kind::Middle, &c1).expect("one block");
     assert_eq!(hex::encode(&right.preauthenticator), BLOCK_2[1]);
     assert_eq!(hex::encode(&c2), BLOCK_2[3]);
-    let joined = record.join(right).expect("neighbours");
+    let joined = record.join(&right).expect("neighbours");
     assert_eq!(hex::encode(&joined.preauthenticator), BLOCK_2[2]);
     // Row 7's example: the published block ends in FF.
     let sealed = [&iv.as_bytes()[..], &c1, tag.as_bytes()].concat();

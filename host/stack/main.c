@@ -1,0 +1,128 @@
+/* Prints the stack that each call was seen to use, the deepest over lists of 1 to 4,000 blocks. */
+#include "balzenoh.h"
+#include "paint.h"
+
+#include <stdio.h>
+
+static const uint8_t key[16] = {1, 2, 3}, iv[16] = {4, 5, 6};
+static uint8_t message[BALZENOH_LONGEST_MESSAGE], sealed[BALZENOH_LONGEST_SEALED], out[BALZENOH_LONGEST_SEALED];
+static uint8_t records[3][BALZENOH_RUN_RECORD], run[BALZENOH_RUN_RECORD], tag[16], mask[16] = {7, 8, 9};
+static uint8_t answer;
+static size_t length;
+/* The number of blocks: of the list, of the run at its end, of the right record, of the jump. */
+static uint32_t blocks;
+
+/* Calls that are not the measured one give what it works on: the record of blocks `first` to `end`, and the sealed list. */
+static void check_part(uint32_t first, uint32_t end, uint8_t *record) {
+    answer |= balzenoh_check_run(key, 16, iv, 16, first, sealed + 16, 16 * (size_t)(end - first), record, BALZENOH_RUN_RECORD);
+}
+
+static void prepare_sealed(void) {
+    answer |= balzenoh_seal(key, 16, iv, 16, message, 16 * (size_t)blocks - 1, sealed, sizeof sealed, &length);
+}
+
+static void prepare_records(void) {
+    check_part(0, BALZENOH_LIMIT - blocks, records[0]);
+    check_part(BALZENOH_LIMIT - blocks, BALZENOH_LIMIT, records[1]);
+    check_part(BALZENOH_LIMIT, BALZENOH_LIMIT, records[2]);
+}
+
+static void prepare_whole(void) {
+    check_part(0, blocks, run);
+    answer |= balzenoh_close(key, 16, iv, 16, run, sizeof run, tag, sizeof tag);
+}
+
+static void prepare_nothing(void) {}
+
+static void seal(void) {
+    CALLER();
+    answer |= balzenoh_seal(key, 16, iv, 16, message, 16 * (size_t)blocks - 1, out, sizeof out, &length);
+}
+
+static void open(void) {
+    CALLER();
+    answer |= balzenoh_open(key, 16, sealed, 16 * (size_t)blocks + 32, out, sizeof out, &length);
+}
+
+static void seal_run(void) {
+    CALLER();
+    answer |= balzenoh_seal_run(key, 16, iv, 16, BALZENOH_LIMIT - blocks, 1, message, 16 * (size_t)blocks - 1, out, sizeof out, &length,
+                                run, sizeof run);
+}
+
+static void check_run(void) {
+    CALLER();
+    answer |= balzenoh_check_run(key, 16, iv, 16, BALZENOH_LIMIT - blocks, sealed + 16, 16 * (size_t)blocks, run, sizeof run);
+}
+
+static void join(void) {
+    CALLER();
+    answer |= balzenoh_join(records[0], sizeof records[0], records[1], sizeof records[1], run, sizeof run);
+}
+
+static void join_list(void) {
+    CALLER();
+    answer |= balzenoh_join_list(records[0], sizeof records, run, sizeof run);
+}
+
+static void close(void) {
+    CALLER();
+    answer |= balzenoh_close(key, 16, iv, 16, run, sizeof run, tag, sizeof tag);
+}
+
+static void test(void) {
+    CALLER();
+    answer |= balzenoh_test(key, 16, iv, 16, run, sizeof run, tag, sizeof tag);
+}
+
+static void jump(void) {
+    CALLER();
+    answer |= balzenoh_jump(mask, sizeof mask, blocks, out, sizeof out);
+}
+
+static const struct {
+    const char *name;
+    void (*prepare)(void), (*call)(void);
+} calls[] = {
+    {"seal", prepare_nothing, seal},
+    {"open", prepare_sealed, open},
+    {"seal_run", prepare_nothing, seal_run},
+    {"check_run", prepare_nothing, check_run},
+    {"join", prepare_records, join},
+    {"join_list", prepare_records, join_list},
+    {"close", prepare_whole, close},
+    {"test", prepare_whole, test},
+    {"jump", prepare_nothing, jump},
+};
+
+/* Every number up to 64, then every 31st, and the last. */
+static uint32_t next(uint32_t number) {
+    uint32_t step = number < 64 ? 1 : 31;
+    return number < BALZENOH_LIMIT && number + step > BALZENOH_LIMIT ? BALZENOH_LIMIT : number + step;
+}
+
+/* The most that a call was seen to use; 0 where that cannot be seen. */
+static size_t deepest(size_t call) {
+    size_t most = 0;
+    for (blocks = 1; blocks <= BALZENOH_LIMIT; blocks = next(blocks)) {
+        calls[call].prepare();
+        size_t used = stack_used(calls[call].call);
+        if (used == 0)
+            return 0;
+        if (used > most)
+            most = used;
+    }
+    return most;
+}
+
+int main(void) {
+    for (size_t call = 0; call < sizeof calls / sizeof *calls; call++) {
+        size_t most = deepest(call);
+        if (most == 0 || answer != 0) {
+            fprintf(stderr, "%s: %s\n", calls[call].name, answer != 0 ? "a call was refused" : "the painted stack is too small");
+            return 1;
+        }
+        printf("  %-9s %5zu\n", calls[call].name, most);
+    }
+    return 0;
+}

@@ -1,0 +1,84 @@
+//! The programs in C beside the package, compiled and run as their pages say.
+
+/// What the other tests use of it is not used here.
+#[allow(dead_code)]
+#[path = "support/checkout.rs"]
+mod checkout;
+
+use std::fs;
+use std::path::Path;
+use std::process::{Command, Output};
+
+use checkout::{present, told, Checkout, ARCHIVES, HOST};
+
+/// Runs a program of the package's folder with the archives of this package.
+fn run(checkout: &Checkout, program: &str, arguments: &[&str]) -> Output {
+    let archives = format!("BALZENOH_LIB_DIR={ARCHIVES}");
+    checkout.run("env", &[&[&archives[..], program], arguments].concat())
+}
+
+#[test]
+fn the_benchmark_draws_its_chart_only_where_it_is_told_to() {
+    if !present("gcc") || !cfg!(bare_cipher) {
+        return println!("the benchmark needs gcc and libaes_blocks.a: skipped");
+    }
+    let checkout = Checkout::new("benchmark");
+    checkout.write("top/docs/benchmarks.svg", "the chart of the last release");
+    let chart = |name: &str| fs::read_to_string(checkout.path(name)).unwrap_or_default();
+    assert!(told(&run(&checkout, "bench/run", &["1"])).contains("64000 bytes, MB/s"));
+    assert_eq!(chart("top/docs/benchmarks.svg"), "the chart of the last release");
+    told(&run(&checkout, "bench/run", &["--chart", "../new.svg", "1"]));
+    assert!(chart("top/new.svg").starts_with("<svg"));
+    assert!(told(&run(&checkout, "bench/run", &["--help"])).contains("--chart FILE.svg"));
+    for wrong in [&["--chart"][..], &["ten"], &["0"], &["1", "../new.svg"]] {
+        assert_eq!(run(&checkout, "bench/run", wrong).status.code(), Some(64), "{wrong:?}");
+    }
+}
+
+#[test]
+fn the_archive_needs_memcpy_and_memset_alone() {
+    if !present("nm") {
+        return;
+    }
+    let told = told(&Command::new("nm").args(["-u", &format!("{ARCHIVES}/libbalzenoh.a")]).output().expect("nm starts"));
+    let mut needed: Vec<&str> = told.lines().filter_map(|line| line.trim().strip_prefix("U ")).collect();
+    needed.sort();
+    assert_eq!(needed, ["memcpy", "memset"]);
+}
+
+/// What the program prints figures of.
+const MEASURED: [&str; 12] =
+    ["code", "constants", "variables", "seal", "open", "seal_run", "check_run", "join", "join_list", "close", "test", "jump"];
+
+/// The number behind a name that begins a line.
+fn figure(text: &str, name: &str) -> Option<usize> {
+    let lines = text.lines().map(|line| line.trim_start_matches([' ', '*']));
+    let mut values = lines.filter_map(|line| line.strip_prefix(name)).filter_map(|value| value.trim().parse().ok());
+    values.next()
+}
+
+#[test]
+fn the_library_takes_what_the_pages_say() {
+    if !present("gcc") || !present("nm") || !present("size") {
+        return;
+    }
+    let printed = told(&run(&Checkout::new("stack"), "stack/run", &[]));
+    for page in ["include/balzenoh.h", "../README.md"] {
+        let text = fs::read_to_string(Path::new(HOST).join(page)).expect("a page");
+        for name in MEASURED {
+            let (measured, said) = (figure(&printed, name).expect("a figure"), figure(&text, name).expect("a figure"));
+            let right = measured <= said && said <= measured + 256;
+            assert!(right, "{page} says {said} for {name}, measured are {measured}: put in what host/stack/run prints");
+        }
+    }
+}
+
+#[test]
+fn the_example_in_c_runs() {
+    if !present("gcc") || !present("g++") {
+        return;
+    }
+    let checkout = Checkout::new("example");
+    let printed = told(&run(&checkout, "c/run", &[]));
+    assert_eq!(printed.matches("one bit flipped: refusal 6").count(), 2, "{printed}");
+}
