@@ -7,11 +7,10 @@ use std::thread;
 use balzenoh::sizes::{padded_blocks, BLOCK};
 use balzenoh::{close, join_list, open, open_into, seal, seal_run, Iv, Key, Kind, Refusal, RunRecord};
 
-use super::args::{Args, Takes};
+use super::args::Args;
 use super::failure::Failure;
-use super::output::{self, Outputs};
-
-pub const DEMO: Takes = Takes { options: &[], flags: &[], operands: 0 };
+use super::output::Outputs;
+use super::standard;
 
 /// The order in which the runs are sealed.
 const ORDER: [usize; 7] = [4, 1, 6, 0, 3, 5, 2];
@@ -48,7 +47,7 @@ pub fn demo(_: &Args, _: &Outputs) -> Result<(), Failure> {
     }
     let Story { checks, wrong, .. } = story;
     story.tell(&format!("\nSummary: {} of {checks} checks as they should be.", checks - wrong));
-    output::print(&story.text)?;
+    standard::print(&story.text)?;
     if wrong == 0 {
         Ok(())
     } else {
@@ -111,7 +110,7 @@ fn seal_one(key: &Key, iv: &Iv, list: &[u8], run: usize) -> Result<Sealed, Refus
 
 /// IV, ciphertexts and the tag of the joined records.
 fn put_together(key: &Key, iv: &Iv, runs: &[Sealed]) -> Result<Vec<u8>, Refusal> {
-    let records: Vec<_> = runs.iter().map(|(_, record)| *record).collect();
+    let records: Vec<_> = runs.iter().map(|(_, record)| record.clone()).collect();
     let tag = close(key, iv, &join_list(&records)?)?;
     let ciphertexts: Vec<u8> = runs.iter().flat_map(|(ciphertext, _)| ciphertext.clone()).collect();
     Ok([iv.as_bytes(), &ciphertexts[..], tag.as_bytes()].concat())
@@ -136,7 +135,7 @@ fn damaged(story: &mut Story, key: &Key, sealed: &[u8]) {
 fn run_left_out(story: &mut Story, key: &Key, iv: &Iv, sealed: &[u8], runs: &[Sealed]) {
     let mut left = runs.to_vec();
     left.remove(3);
-    let records: Vec<_> = left.iter().map(|(_, record)| *record).collect();
+    let records: Vec<_> = left.iter().map(|(_, record)| record.clone()).collect();
     story.tell("\nThe record of one run left out:");
     refused(story, join_list(&records), Refusal::NotNeighbours);
     let ciphertexts: Vec<u8> = left.into_iter().flat_map(|(ciphertext, _)| ciphertext).collect();

@@ -1,0 +1,93 @@
+//! The script for bash.
+
+use super::super::table::{options, Command, Operand, Opt, Value, COMMANDS, HELP, VERSION};
+
+/// What completes any line, once it is known what may stand there. Bash may take `=` and `@` for the ends of words; then only what
+/// follows them is replaced.
+const COMPLETE: &str = r#"_balzenoh() {
+    local line=${COMP_LINE:0:COMP_POINT} words word before options operand value
+    read -ra words <<< "$line"
+    word=${line##*[[:space:]]}
+    [[ -z $word ]] && words+=('')
+    before=${words[-2]}
+    COMPREPLY=()
+    if (( ${#words[@]} == 2 )); then
+        options=$_balzenoh_commands operand=words
+    else
+        _balzenoh_command "${words[1]}"
+    fi
+    case $word in
+        --*=*) before=${word%%=*} word=${word#*=} ;;
+    esac
+    value=$(_balzenoh_value "$before")
+    if [[ -n $value ]]; then
+        _balzenoh_offer "$value" "$word"
+    elif [[ $word == -* || $operand == words ]]; then
+        _balzenoh_offer "$options" "$word"
+    else
+        _balzenoh_offer "$operand" "$word"
+    fi
+}
+
+_balzenoh_offer() {
+    case $1 in
+        none) ;;
+        file) mapfile -t COMPREPLY < <(compgen -f -- "$2"); compopt -o filenames 2> /dev/null ;;
+        digits)
+            [[ $2 == @* ]] || return
+            local front=@
+            [[ $COMP_WORDBREAKS == *@* ]] && front=
+            mapfile -t COMPREPLY < <(compgen -f -P "$front" -- "${2#@}")
+            compopt -o filenames 2> /dev/null ;;
+        *) mapfile -t COMPREPLY < <(compgen -W "$1" -- "$2") ;;
+    esac
+}
+
+complete -F _balzenoh balzenoh
+"#;
+
+pub fn script() -> String {
+    let commands = COMMANDS.iter().map(|command| command.name).chain([&HELP, &VERSION].into_iter().flat_map(names));
+    let commands = commands.collect::<Vec<_>>().join(" ");
+    let cases: String = COMMANDS.iter().map(case).collect();
+    format!(
+        "# Completions of balzenoh for bash.\n\n_balzenoh_commands='{commands}'\n\n_balzenoh_command() {{\n    case $1 in\n{cases}    \
+         esac\n}}\n\n{}\n{COMPLETE}",
+        values()
+    )
+}
+
+/// The options of a command, and what its operands are.
+fn case(command: &'static Command) -> String {
+    let options: Vec<_> = options(command).flat_map(names).collect();
+    let operand = match command.operand {
+        Operand::None => "none",
+        Operand::Input => "file",
+        Operand::Record | Operand::Records => "digits",
+        Operand::Shell => "bash zsh",
+        Operand::Command => "$_balzenoh_commands",
+    };
+    format!("        {}) options='{}' operand=\"{operand}\" ;;\n", command.name, options.join(" "))
+}
+
+/// What follows each option that takes a value.
+fn values() -> String {
+    let mut rows = Vec::new();
+    for option in COMMANDS.iter().flat_map(|command| command.options) {
+        let kind = match option.value {
+            Value::Nothing => continue,
+            Value::Digits(_) => "digits",
+            Value::Number(..) => "none",
+            Value::File(_) => "file",
+        };
+        let row = format!("        {}) echo {kind} ;;\n", names(option).collect::<Vec<_>>().join("|"));
+        if !rows.contains(&row) {
+            rows.push(row);
+        }
+    }
+    format!("_balzenoh_value() {{\n    case $1 in\n{}    esac\n}}\n", rows.concat())
+}
+
+fn names(option: &'static Opt) -> impl Iterator<Item = &'static str> {
+    option.short.into_iter().chain([option.long])
+}
