@@ -37,7 +37,7 @@ pub const STATUSES: [(u8, &str); 15] = [
     (8, "the records do not follow each other"),
     (9, "not the record of a whole list, or no record at all"),
     (24, "a run record is not 24 bytes"),
-    (USAGE, "the command line is wrong; nothing was done"),
+    (USAGE, "the command line is wrong; nothing was touched"),
     (FAULT, "the demonstration went wrong, or the program or the library has a fault"),
     (STILL_THERE, "the command failed, and an earlier file at the output could neither be removed nor emptied"),
     (FILE, "a file or stream cannot be read or written"),

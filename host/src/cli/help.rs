@@ -28,7 +28,7 @@ pub const SECTIONS: [(&str, &str); 3] = [
         "FAILURES",
         "Unless the exit status is 0, 64 or 73, nothing of an earlier file is left where an answer was to go: the file is REMOVED, or \
          emptied where its folder does not allow that, so that no earlier list is taken for the one that was refused. With 64 nothing \
-         was done. With 73 it could be neither removed nor emptied, and the message names it.",
+         was touched. With 73 it could be neither removed nor emptied, and the message names it.",
     ),
 ];
 

@@ -37,6 +37,10 @@ fn written(name: &str, stream: io::Result<File>, bytes: &[u8]) -> Result<(), Fai
     result.map_err(|error| Failure::unwritable(OsStr::new(name), &error))
 }
 
+/// A parent may open the null device in that way too, and then means it.
+const CLOSED: &str =
+    "it is closed, or is the null device open for reading and writing, which looks the same. Name /dev/null to mean it";
+
 /// A stream as a file, unless it was closed when the program started. By the time that the program sees it, the language's runtime
 /// has opened the null device in its place, for reading and writing, and that is what is looked for.
 pub fn open(stream: impl AsFd) -> io::Result<File> {
@@ -44,7 +48,7 @@ pub fn open(stream: impl AsFd) -> io::Result<File> {
     let device = copy.metadata()?.rdev();
     let is_null = fs::metadata("/dev/null").is_ok_and(|null| null.rdev() == device);
     if is_null && copy.read(&mut [0]).is_ok() && copy.write(&[0]).is_ok() {
-        return Err(Error::other("it is closed"));
+        return Err(Error::other(CLOSED));
     }
     Ok(copy)
 }

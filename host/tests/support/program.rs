@@ -73,13 +73,22 @@ impl Folder {
         self.finish(Command::new("bash").arg("-c").arg(line).envs(values), b"")
     }
 
-    /// Runs the program as a user to whom the modes of files apply.
-    pub fn run_unprivileged(&self, arguments: &[&str]) -> Run {
+    /// Runs the program as a user to whom the modes of files apply, where such a one can run it.
+    pub fn run_unprivileged(&self, arguments: &[&str]) -> Option<Run> {
+        if self.unprivileged().arg("--version").stdout(Stdio::null()).status().is_err() {
+            eprintln!("left out: nobody but root can run {PROGRAM}");
+            return None;
+        }
+        Some(self.finish(self.unprivileged().args(arguments), b""))
+    }
+
+    fn unprivileged(&self) -> Command {
         let mut command = Command::new(PROGRAM);
+        command.current_dir(&self.0);
         if fs::metadata("/proc/self").is_ok_and(|own| own.uid() == 0) {
             command.uid(NOBODY).gid(NOBODY);
         }
-        self.finish(command.args(arguments), b"")
+        command
     }
 
     fn finish(&self, command: &mut Command, input: &[u8]) -> Run {

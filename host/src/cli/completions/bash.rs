@@ -2,8 +2,8 @@
 
 use super::super::table::{options, Command, Operand, Opt, Value, COMMANDS, HELP, VERSION};
 
-/// What completes any line, once it is known what may stand there. Bash may take `=` and `@` for the ends of words; then only what
-/// follows them is replaced.
+/// What completes any line, once it is known what may stand there. Bash takes `=` for the end of a word, and replaces only what
+/// follows it; names of files it quotes itself where it is told that they are such, which those after `@` are not.
 const COMPLETE: &str = r#"_balzenoh() {
     local line=${COMP_LINE:0:COMP_POINT} words word before options operand value
     read -ra words <<< "$line"
@@ -35,10 +35,8 @@ _balzenoh_offer() {
         file) mapfile -t COMPREPLY < <(compgen -f -- "$2"); compopt -o filenames 2> /dev/null ;;
         digits)
             [[ $2 == @* ]] || return
-            local front=@
-            [[ $COMP_WORDBREAKS == *@* ]] && front=
-            mapfile -t COMPREPLY < <(compgen -f -P "$front" -- "${2#@}")
-            compopt -o filenames 2> /dev/null ;;
+            local name
+            while read -r name; do COMPREPLY+=("@$(printf %q "$name")"); done < <(compgen -f -- "${2#@}") ;;
         *) mapfile -t COMPREPLY < <(compgen -W "$1" -- "$2") ;;
     esac
 }
