@@ -75,3 +75,15 @@ fn help_comes_by_every_usual_way() {
     folder.run(&["help"]).exits(0).prints(&folder.run(&["--help"]).exits(0).stdout);
     folder.run(&["help", "unseal"]).exits(64);
 }
+
+/// The lines that the README shows.
+#[test]
+fn a_key_and_an_iv_come_from_the_systems_random_source() {
+    let folder = Folder::new("random");
+    folder.write("routes.txt", b"parcel 1 -> cage 2\n");
+    folder.shell("(umask 077; head -c 16 /dev/urandom > key); head -c 16 /dev/urandom > iv").exits(0);
+    assert_eq!(folder.mode("key"), 0o600);
+    folder.shell("$B seal --key @key --iv @iv routes.txt -o routes.sealed").exits(0);
+    folder.shell("$B check --key @key routes.sealed").exits(0).prints(b"passes\n");
+    folder.shell("rm routes.txt; $B open --key @key routes.sealed -o routes.txt; cat routes.txt").prints(b"parcel 1 -> cage 2\n");
+}

@@ -53,6 +53,24 @@ fn a_closed_standard_output_loses_no_answer() {
     folder.shell("$B seal --key $K --iv $I -o new </dev/null").exits(0);
 }
 
+#[test]
+fn a_stream_of_the_wrong_direction_loses_no_answer() {
+    let folder = filled("direction");
+    folder.shell("$B seal --key $K --iv $I list 1< /dev/null").exits(74).tells("standard output");
+    folder.shell("$B seal --key $K --iv $I -o new 0> empty").exits(74).tells("standard input");
+    folder.shell("$B seal-run --key $K --iv $I --first 0 --last list -o new 2< /dev/null").exits(74);
+    assert!(folder.read("new").is_none());
+}
+
+#[test]
+fn two_answers_do_not_share_a_stream() {
+    let folder = filled("shared");
+    let run = "$B seal-run --key $K --iv $I --first 0 --last list";
+    folder.shell(&format!("{run} --record -")).exits(64).prints(b"");
+    let record = folder.shell(&format!("{run} --record - -o run")).exits(0).stdout;
+    assert_eq!(folder.shell(&format!("{run} -o run 2>&1")).exits(0).stdout, record);
+}
+
 /// Runs a line of shell with a terminal as its standard output, where there is a program for that.
 fn on_a_terminal(folder: &Folder, line: &str) -> Option<crate::program::Run> {
     if Command::new("script").arg("--version").output().is_err() {
