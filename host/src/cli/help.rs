@@ -21,8 +21,9 @@ pub const SECTIONS: [(&str, &str); 3] = [
         "INPUT AND OUTPUT",
         "INPUT is a file, or standard input where it is left out or -. The answer goes to the file after -o, or to standard output \
          where that is left out or -. What is not text goes to a terminal only after -o -. A new file appears whole or not at all. One \
-         that takes the place of an earlier file keeps its mode; a new record can be read by its owner alone. A link is followed. The \
-         answer is never written over one of the inputs, by whatever name: such a command line is wrong.",
+         that takes the place of an earlier file keeps its mode; a new record can be read by its owner alone. A link is followed, a \
+         device or pipe is written and stays. The answer is never written over one of the inputs, by whatever name: such a command \
+         line is wrong.",
     ),
     (
         "FAILURES",

@@ -1,7 +1,7 @@
 //! What a command writes: its answer and, for some, a record.
 //!
-//! Unless the exit status is 0, 64 or 73, nothing of an earlier answer is left at the output: an earlier list must not be taken for
-//! the one that was refused.
+//! Unless the exit status is 0, 64 or 73, nothing of an earlier file is left where an answer was to go: an earlier list must not be
+//! taken for the one that was refused.
 
 use std::io::{self, IsTerminal};
 
@@ -89,8 +89,9 @@ impl Outputs {
                     standard::say(format!("what lay there before cannot be removed ({error}): {name} is now empty"))
                 }
                 Cleared::StillThere(error) => {
+                    let is = if path.exists() { "is" } else { "may be" };
                     standard::say(format!(
-                        "{name} is still there, do not use it: it can be neither removed nor emptied ({error})"
+                        "{name} {is} still there, do not use it: it can be neither removed nor emptied ({error})"
                     ));
                     all_gone = false;
                 }
