@@ -12,24 +12,24 @@ pub const TITLE: &str = "seals and opens route lists (Cipher-State mode over AES
 pub const SECTIONS: [(&str, &str); 3] = [
     (
         "VALUES",
-        "A key, IV, tag, mask or record is given as hexadecimal digits, or as @FILE; @- is standard input. The file holds the bytes \
-         themselves, or their digits and a line end. A file of exactly the right size (16 bytes; a record 24) is always taken as the \
-         bytes themselves. A value of any other length is refused by its number, and so is one that is not made of digits. Keys on \
-         the command line are seen by others on the machine: use a file.",
+        "A key, IV, tag, mask or record is given as hexadecimal digits, or as @FILE; @- is standard input. The file holds the \
+         bytes themselves, or their digits and a line end. A file of exactly the right size (16 bytes; a record 24) is always \
+         taken as the bytes themselves. A value of any other length is refused by its number, and so is one that is not made \
+         of digits. Keys on the command line are seen by others on the machine: use a file.",
     ),
     (
         "INPUT AND OUTPUT",
-        "INPUT is a file, or standard input where it is left out or -. The answer goes to the file after -o, or to standard output \
-         where that is left out or -. What is not text goes to a terminal only after -o -. A new file appears whole or not at all. One \
-         that takes the place of an earlier file keeps its mode; a new record can be read by its owner alone. A link is followed, a \
-         device or pipe is written and stays. The answer is never written over one of the inputs, by whatever name: such a command \
-         line is wrong.",
+        "INPUT is a file, or standard input where it is left out or -. The answer goes to the file after -o, or to standard \
+         output where that is left out or -. What is not text goes to a terminal only after -o -. A new file appears whole or \
+         not at all. One that takes the place of an earlier file keeps its mode; a new record can be read by its owner alone. \
+         A link is followed, a device or pipe is written and stays. The answer is never written over one of the inputs, by \
+         whatever name: such a command line is wrong.",
     ),
     (
         "FAILURES",
-        "Unless the exit status is 0, 64 or 73, nothing of an earlier file is left where an answer was to go: the file is REMOVED, or \
-         emptied where its folder does not allow that, so that no earlier list is taken for the one that was refused. With 64 nothing \
-         was touched. With 73 it could be neither removed nor emptied, and the message names it.",
+        "Unless the exit status is 0, 64 or 73, nothing of an earlier file is left where an answer was to go: the file is \
+         REMOVED, or emptied where its folder does not allow that, so that no earlier list is taken for the one that was \
+         refused. With 64 nothing was touched. With 73 it could be neither removed nor emptied, and the message names it.",
     ),
 ];
 
@@ -57,8 +57,18 @@ pub fn print_global() -> Result<(), Failure> {
     let statuses: String = STATUSES.iter().map(|(status, text)| format!("  {status:3}   {text}\n")).collect();
     let examples: String = global_examples().map(|example| format!("  {example}\n")).collect();
     standard::print(&format!(
-        "balzenoh: {TITLE}\n\n    balzenoh COMMAND [OPTIONS] [OPERANDS]\n\n{commands}\n{options}\n  balzenoh COMMAND --help   says more of \
-         a command\n{sections}\nEXIT STATUS\n{statuses}\nEXAMPLES\n{examples}"
+        "balzenoh: {TITLE}
+
+    balzenoh COMMAND [OPTIONS] [OPERANDS]
+
+{commands}
+{options}
+  balzenoh COMMAND --help   says more of a command
+{sections}
+EXIT STATUS
+{statuses}
+EXAMPLES
+{examples}"
     ))
 }
 

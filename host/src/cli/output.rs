@@ -1,7 +1,7 @@
 //! What a command writes: its answer and, for some, a record.
 //!
-//! Unless the exit status is 0, 64 or 73, nothing of an earlier file is left where an answer was to go: an earlier list must not be
-//! taken for the one that was refused.
+//! Unless the exit status is 0, 64 or 73, nothing of an earlier file is left where an answer was to go: an earlier list must not
+//! be taken for the one that was refused.
 
 use std::io::{self, IsTerminal};
 

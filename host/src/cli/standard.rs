@@ -1,7 +1,7 @@
 //! The standard streams.
 //!
-//! They are read and written through copies of their descriptors: the language's own handles take a descriptor that cannot be read
-//! or written for an empty or a patient one.
+//! They are read and written through copies of their descriptors. The language's own handles hide that a descriptor cannot be read
+//! or written: they read nothing from it, and drop what is written.
 
 use std::ffi::OsStr;
 use std::fmt::Display;
@@ -37,12 +37,12 @@ fn written(name: &str, stream: io::Result<File>, bytes: &[u8]) -> Result<(), Fai
     result.map_err(|error| Failure::unwritable(OsStr::new(name), &error))
 }
 
-/// A parent may open the null device in that way too, and then means it.
+/// A parent may have opened the null device in the same way.
 const CLOSED: &str =
     "it is closed, or is the null device open for reading and writing, which looks the same. Name /dev/null to mean it";
 
-/// A stream as a file, unless it was closed when the program started. By the time that the program sees it, the language's runtime
-/// has opened the null device in its place, for reading and writing, and that is what is looked for.
+/// A stream as a file, unless it was closed when the program started. By the time that the program sees it, the language's
+/// runtime has opened the null device in its place, for reading and writing, and that is what is looked for.
 pub fn open(stream: impl AsFd) -> io::Result<File> {
     let mut copy = copy_of(stream)?;
     let device = copy.metadata()?.rdev();

@@ -151,8 +151,8 @@ pub static COMMANDS: [Command; 13] = [
     Command {
         name: "seal",
         summary: "seal a list",
-        text: "Seals a list of up to 63,999 bytes. The answer is the IV, the ciphertext and the tag. An IV must not be used twice \
-               under one key.",
+        text: "Seals a list of up to 63,999 bytes. The answer is the IV, the ciphertext and the tag. An IV must not be used \
+               twice under one key.",
         options: &[
             key(),
             iv(SIXTEEN),
@@ -181,9 +181,9 @@ pub static COMMANDS: [Command; 13] = [
     Command {
         name: "check",
         summary: "see whether a sealed list opens, and write nothing of it",
-        text: "Checks a sealed list: prints `passes` where open would give the list, or refuses as open would. The runs are checked \
-               on the threads and joined, the tag is tested, and then the list is opened in memory, since its end can be seen in \
-               no other way. Nothing of the list is written.",
+        text: "Checks a sealed list: prints `passes` where open would give the list, or refuses as open would. The runs are \
+               checked on the threads and joined, the tag is tested, and then the list is opened in memory, since its end can \
+               be seen in no other way. Nothing of the list is written.",
         options: &[
             key(),
             runs("cut the list into N runs and check each by itself: the same answer"),
@@ -197,8 +197,8 @@ pub static COMMANDS: [Command; 13] = [
     Command {
         name: "seal-run",
         summary: "seal a part of a list: a run of its blocks of 16 bytes",
-        text: "Seals a run: consecutive blocks of a list, which can be sealed on another machine than the rest. The ciphertext is \
-               the answer. The run's record goes to the record file, or as 48 hexadecimal digits to standard error.",
+        text: "Seals a run: consecutive blocks of a list, which can be sealed on another machine than the rest. The ciphertext \
+               is the answer. The run's record goes to the record file, or as 48 hexadecimal digits to standard error.",
         options: &[
             key(),
             iv(SIXTEEN),
@@ -218,8 +218,8 @@ pub static COMMANDS: [Command; 13] = [
     Command {
         name: "check-run",
         summary: "check a run of ciphertext",
-        text: "Checks a run of ciphertext: gives the record that sealing the run gave, and no plaintext. The record is printed as \
-               48 hexadecimal digits, or goes to the record file.",
+        text: "Checks a run of ciphertext: gives the record that sealing the run gave, and no plaintext. The record is printed \
+               as 48 hexadecimal digits, or goes to the record file.",
         options: &[key(), iv("32 hexadecimal digits, or @FILE: the first 16 bytes of the sealed list"), first(), record_file()],
         operand: Operand::Input,
         binary: false,
@@ -240,8 +240,8 @@ pub static COMMANDS: [Command; 13] = [
     Command {
         name: "close",
         summary: "close the record of a whole list into its tag",
-        text: "Closes the record of a whole list into its tag. The tag is printed as 32 hexadecimal digits, or goes to the file as \
-               16 bytes. IV, ciphertexts and tag, one after the other, are the sealed list.",
+        text: "Closes the record of a whole list into its tag. The tag is printed as 32 hexadecimal digits, or goes to the \
+               file as 16 bytes. IV, ciphertexts and tag, one after the other, are the sealed list.",
         options: &[key(), iv(SIXTEEN), output("where the tag goes")],
         operand: Operand::Record,
         binary: false,
@@ -278,8 +278,8 @@ pub static COMMANDS: [Command; 13] = [
     Command {
         name: "demo",
         summary: "see what all this is for, in a few seconds",
-        text: "Seals a made-up route list whole and in runs out of order, opens it, and damages it: what is handed out, and what is \
-               not. The exit status is 0 only if all was as it should be.",
+        text: "Seals a made-up route list whole and in runs out of order, opens it, and damages it: what is handed out, and \
+               what is not. The exit status is 0 only if all was as it should be.",
         options: &[],
         operand: Operand::None,
         binary: false,

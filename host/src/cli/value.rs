@@ -63,8 +63,8 @@ fn option(args: &Args, name: &str, kind: &Kind, faults: &mut Faults) -> Result<V
     read(name, args.value(name).unwrap_or_default(), kind, faults)
 }
 
-/// Reads a value. One that cannot be right is handed on with its wrong length, or with no byte at all where it has none: the library
-/// is to refuse it.
+/// Reads a value. One that cannot be right is handed on with its wrong length, or with no byte where it is not made of bytes: the
+/// library is to refuse it.
 fn read(name: &str, value: &OsStr, kind: &Kind, faults: &mut Faults) -> Result<Vec<u8>, Failure> {
     let (name, found) = match Source::of_value(value) {
         None => (name.to_string(), in_text(value.as_bytes())),

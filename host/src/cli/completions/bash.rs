@@ -48,10 +48,19 @@ pub fn script() -> String {
     let commands = COMMANDS.iter().map(|command| command.name).chain([&HELP, &VERSION].into_iter().flat_map(names));
     let commands = commands.collect::<Vec<_>>().join(" ");
     let cases: String = COMMANDS.iter().map(case).collect();
+    let values = values();
     format!(
-        "# Completions of balzenoh for bash.\n\n_balzenoh_commands='{commands}'\n\n_balzenoh_command() {{\n    case $1 in\n{cases}    \
-         esac\n}}\n\n{}\n{COMPLETE}",
-        values()
+        "# Completions of balzenoh for bash.
+
+_balzenoh_commands='{commands}'
+
+_balzenoh_command() {{
+    case $1 in
+{cases}    esac
+}}
+
+{values}
+{COMPLETE}"
     )
 }
 

@@ -11,9 +11,26 @@ pub fn script() -> String {
     let global: String = [&HELP, &VERSION].into_iter().map(specification).collect();
     let cases: String = COMMANDS.iter().map(case).collect();
     format!(
-        "#compdef balzenoh\n\n{VALUE}\n_balzenoh() {{\n    local -a commands\n    commands=(\n{commands}    )\n    if (( CURRENT == 2 )); \
-         then\n        _describe -t commands command commands\n        _arguments{global}\n        return\n    fi\n    shift words\n    (( \
-         CURRENT-- ))\n    case $words[1] in\n{cases}    esac\n}}\n\n_balzenoh \"$@\"\n"
+        r#"#compdef balzenoh
+
+{VALUE}
+_balzenoh() {{
+    local -a commands
+    commands=(
+{commands}    )
+    if (( CURRENT == 2 )); then
+        _describe -t commands command commands
+        _arguments{global}
+        return
+    fi
+    shift words
+    (( CURRENT-- ))
+    case $words[1] in
+{cases}    esac
+}}
+
+_balzenoh "$@"
+"#
     )
 }
 
