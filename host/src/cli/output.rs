@@ -35,7 +35,7 @@ impl Outputs {
     }
 
     fn require_distinct(&self, args: &Args) -> Result<(), Failure> {
-        if args.command().binary && self.to_stream() && matches!(self.record, Destination::Named) {
+        if args.command().takes(table::OUTPUT) && self.to_stream() && matches!(self.record, Destination::Named) {
             return Err(Failure::Usage("standard output is to be written for two answers".into()));
         }
         // Standard input is somebody's input even where this command does not read it.
@@ -52,11 +52,18 @@ impl Outputs {
 
     /// The regular files that are written, with their names.
     fn written(&self, args: &Args) -> Vec<(Identity, String)> {
-        let named = [(&self.output, table::OUTPUT), (&self.record, table::RECORD)];
-        let files =
-            named.into_iter().filter_map(|(destination, option)| Some((destination.identity()?, shown(args.value(option)?))));
-        let stream = Identity::of_stream(io::stdout()).filter(|_| self.to_stream());
-        files.chain(stream.map(|identity| (identity, "the file at standard output".to_string()))).collect()
+        let named = [(&self.output, table::OUTPUT), (&self.record, table::RECORD)].into_iter();
+        let named = named.filter_map(|(destination, option)| Some((destination.identity()?, shown(args.value(option)?))));
+        let output = Identity::of_stream(io::stdout()).filter(|_| self.to_stream());
+        let record = Identity::of_stream(io::stderr()).filter(|_| self.record_to_error(args));
+        let streams = [(output, "the file at standard output"), (record, "the file at standard error")].into_iter();
+        named.chain(streams.filter_map(|(identity, name)| Some((identity?, name.to_string())))).collect()
+    }
+
+    /// Whether a record goes to standard error, since standard output is for the ciphertext.
+    fn record_to_error(&self, args: &Args) -> bool {
+        let gives_both = [table::OUTPUT, table::RECORD].iter().all(|name| args.command().takes(name));
+        gives_both && matches!(self.record, Destination::Usual)
     }
 
     fn to_stream(&self) -> bool {

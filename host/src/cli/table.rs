@@ -58,6 +58,13 @@ pub struct Command {
     pub work: fn(&Args, &Outputs) -> Result<(), Failure>,
 }
 
+impl Command {
+    /// Whether it takes the option with this long name.
+    pub fn takes(&self, name: &str) -> bool {
+        self.options.iter().any(|option| option.long == name)
+    }
+}
+
 impl Operand {
     /// Its name, and how many there are at least and at most.
     pub fn shape(&self) -> (&'static str, usize, usize) {

@@ -65,6 +65,10 @@ fn two_outputs_are_two_files() {
     for pair in ["-o new --record ./new", "-o old --record link", "-o dangling --record nothing"] {
         folder.shell(&format!("{run} {pair}")).exits(64);
     }
+    // Standard error gets the record where no file is named for it.
+    for pair in ["-o both 2> both", "> both 2>&1"] {
+        folder.shell(&format!("{run} {pair}")).exits(64);
+    }
     assert_eq!(folder.read("old"), Some(b"old".to_vec()));
     assert!(folder.read("new").is_none() && folder.read("nothing").is_none());
 }

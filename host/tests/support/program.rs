@@ -62,6 +62,13 @@ impl Folder {
         self.feed(arguments, b"")
     }
 
+    /// The commands that the help lists.
+    pub fn commands(&self) -> Vec<String> {
+        let help = self.run(&["--help"]).exits(0).text();
+        let listed = help.lines().skip_while(|line| !line.starts_with("  seal ")).take_while(|line| !line.is_empty());
+        listed.filter_map(|line| line.split_whitespace().next().map(str::to_string)).collect()
+    }
+
     /// Runs the program with this standard input.
     pub fn feed<A: AsRef<OsStr>>(&self, arguments: &[A], input: &[u8]) -> Run {
         self.finish(Command::new(PROGRAM).args(arguments), input)
