@@ -1,103 +1,164 @@
 //! Arguments: options with a value, flags, and operands.
 
 use std::ffi::{OsStr, OsString};
-use std::str::FromStr;
+use std::os::unix::ffi::OsStrExt;
 
 use super::failure::Failure;
-
-/// What a command takes.
-pub struct Takes {
-    /// Options that have a value.
-    pub options: &'static [&'static str],
-    /// Options that have none.
-    pub flags: &'static [&'static str],
-    /// The most operands.
-    pub operands: usize,
-}
+use super::names::{harmless, shown};
+use super::source::Source;
+use super::table::{self, Command, Operand, Opt, Value, HELP};
 
 /// What a command was given.
-#[derive(Default)]
 pub struct Args {
-    values: Vec<(&'static str, OsString)>,
-    flags: Vec<&'static str>,
+    command: &'static Command,
+    values: Vec<(&'static Opt, OsString)>,
     operands: Vec<OsString>,
 }
 
-const HELP: [&str; 2] = ["--help", "-h"];
-
 impl Args {
-    /// Reads `--option value`, `--option=value`, flags and operands. After `--` come operands only; `-` is an operand.
-    pub fn parse(takes: &Takes, mut given: impl Iterator<Item = OsString>) -> Result<Self, Failure> {
-        let mut args = Self::default();
+    /// Reads `--option value`, `--option=value`, `-o value`, `-ovalue`, flags and operands. After `--` come operands only; `-` is
+    /// an operand.
+    pub fn parse(command: &'static Command, mut given: impl Iterator<Item = OsString>) -> Result<Self, Failure> {
+        let mut args = Self { command, values: Vec::new(), operands: Vec::new() };
         while let Some(argument) = given.next() {
-            match argument.to_str() {
-                Some("--") => args.operands.extend(given.by_ref()),
-                Some(text) if text.starts_with('-') && text != "-" => args.option(takes, text, &mut given)?,
+            match argument.as_bytes() {
+                b"--" => args.operands.extend(given.by_ref()),
+                [b'-', _, ..] => args.option(&argument, &mut given)?,
                 _ => args.operands.push(argument),
             }
         }
-        if args.operands.len() > takes.operands {
-            return Err(Failure::Usage(format!("at most {} operands are taken", takes.operands)));
+        if !args.wants_help() {
+            args.require_all()?;
         }
         Ok(args)
     }
 
-    fn option(&mut self, takes: &Takes, text: &str, given: &mut impl Iterator<Item = OsString>) -> Result<(), Failure> {
-        let (name, joined) = match text.split_once('=') {
-            Some((name, value)) => (name, Some(OsString::from(value))),
-            None => (text, None),
+    fn option(&mut self, argument: &OsStr, given: &mut impl Iterator<Item = OsString>) -> Result<(), Failure> {
+        let (name, joined) = split(argument.as_bytes());
+        let known = |option: &&Opt| option.long.as_bytes() == name || option.short.is_some_and(|short| short.as_bytes() == name);
+        let Some(option) = table::options(self.command).find(known) else {
+            let name = harmless(name).unwrap_or("one of the arguments");
+            return Err(Failure::Usage(format!("{name} is no option of this command")));
         };
-        let known = |names: &[&'static str]| names.iter().copied().find(|known| *known == name);
-        if let Some(flag) = known(takes.flags).or(known(&HELP)).filter(|_| joined.is_none()) {
-            self.flags.push(flag);
-            return Ok(());
+        let name = String::from_utf8_lossy(name);
+        let value = match (&option.value, joined) {
+            (Value::Nothing, None) => OsString::new(),
+            (Value::Nothing, Some(_)) => return Err(Failure::Usage(format!("{name} takes no value"))),
+            (_, Some(value)) => value.to_owned(),
+            (_, None) => given.next().ok_or_else(|| Failure::Usage(format!("{name} needs a value")))?,
+        };
+        if self.value(option.long).is_some() && option.value.name().is_some() {
+            return Err(Failure::Usage(format!("{name} is given twice")));
         }
-        // What follows the name may be a key: it is not repeated in the message.
-        let option = known(takes.options).ok_or_else(|| Failure::Usage(format!("{name} is no such option of this command")))?;
-        if self.value(option).is_some() {
-            return Err(Failure::Usage(format!("{option} is given twice")));
-        }
-        let value = joined.or_else(|| given.next());
-        let value = value.ok_or_else(|| Failure::Usage(format!("{option} needs a value")))?;
+        require_value(&name, &option.value, &value)?;
         self.values.push((option, value));
         Ok(())
     }
 
+    /// What the command needs must be there, and standard input can be read once.
+    fn require_all(&self) -> Result<(), Failure> {
+        if let Some(missing) = self.command.options.iter().find(|option| option.needed && self.value(option.long).is_none()) {
+            return Err(Failure::Usage(format!("{} is missing", missing.long)));
+        }
+        let (name, least, most) = self.command.operand.shape();
+        let given = self.operands.len();
+        if given < least {
+            return Err(Failure::Usage(format!("{name} is missing")));
+        }
+        if given > most {
+            let taken = if most == 0 { "no operand is taken" } else { "one operand at most is taken" };
+            return Err(Failure::Usage(format!("{taken}, and {given} {} given", if given == 1 { "is" } else { "are" })));
+        }
+        self.require_names()?;
+        if self.sources().iter().filter(|source| matches!(source, Source::Standard)).count() > 1 {
+            return Err(Failure::Usage("standard input is to be read for two things".into()));
+        }
+        Ok(())
+    }
+
+    fn require_names(&self) -> Result<(), Failure> {
+        match (&self.command.operand, self.operands.first()) {
+            (Operand::Input, Some(name)) if name.is_empty() => Err(Failure::Usage("the name of the input is empty".into())),
+            (Operand::Record | Operand::Records, _) if self.operands.iter().any(|operand| operand == "@") => {
+                Err(Failure::Usage("RECORD has no name after the @".into()))
+            }
+            _ => Ok(()),
+        }
+    }
+
+    pub fn command(&self) -> &'static Command {
+        self.command
+    }
+
     pub fn wants_help(&self) -> bool {
-        HELP.iter().any(|name| self.flag(name))
+        self.flag(HELP.long)
     }
 
     pub fn flag(&self, name: &str) -> bool {
-        self.flags.contains(&name)
+        self.value(name).is_some()
     }
 
+    /// The value of the option with this long name.
     pub fn value(&self, name: &str) -> Option<&OsStr> {
-        self.values.iter().find(|(option, _)| *option == name).map(|(_, value)| value.as_os_str())
+        self.values.iter().find(|(option, _)| option.long == name).map(|(_, value)| value.as_os_str())
     }
 
-    pub fn required(&self, name: &str) -> Result<&OsStr, Failure> {
-        self.value(name).ok_or_else(|| Failure::Usage(format!("{name} is missing")))
-    }
-
-    /// A decimal number.
-    pub fn number<N: FromStr>(&self, name: &str) -> Result<Option<N>, Failure> {
-        let Some(value) = self.value(name) else { return Ok(None) };
-        let number = value.to_str().and_then(|text| text.parse().ok());
-        number.map(Some).ok_or_else(|| Failure::Usage(format!("{name} takes no number like {}", value.display())))
-    }
-
-    pub fn required_number<N: FromStr>(&self, name: &str) -> Result<N, Failure> {
-        self.required(name)?;
-        self.number(name)?.ok_or_else(|| Failure::Usage(format!("{name} is missing")))
+    /// A number. One that is too large to be right in any case is the largest there is.
+    pub fn number(&self, name: &str) -> Option<u64> {
+        self.value(name).and_then(decimal)
     }
 
     pub fn operands(&self) -> &[OsString] {
         &self.operands
     }
 
-    /// The values of all options, and all operands.
-    pub fn values(&self) -> impl Iterator<Item = &OsStr> {
-        let options = self.values.iter().map(|(_, value)| value.as_os_str());
-        options.chain(self.operands.iter().map(OsString::as_os_str))
+    /// All that the command reads.
+    pub fn sources(&self) -> Vec<Source> {
+        let values = self.values.iter().filter(|(option, _)| matches!(option.value, Value::Digits(_)));
+        let mut sources: Vec<_> = values.filter_map(|(_, value)| Source::of_value(value)).collect();
+        match self.command.operand {
+            Operand::Input => sources.push(Source::of_input(self.operands.first())),
+            Operand::Record | Operand::Records => sources.extend(self.operands.iter().filter_map(|name| Source::of_value(name))),
+            Operand::None | Operand::Shell | Operand::Command => {}
+        }
+        sources
     }
+}
+
+/// The name of an option, and the value that is joined to it.
+fn split(argument: &[u8]) -> (&[u8], Option<&OsStr>) {
+    let (name, value) = match argument.iter().position(|&byte| byte == b'=') {
+        Some(at) if argument.starts_with(b"--") => (&argument[..at], Some(&argument[at + 1..])),
+        _ if argument.starts_with(b"--") || argument.len() == 2 => (argument, None),
+        _ => (&argument[..2], Some(argument[2..].strip_prefix(b"=").unwrap_or(&argument[2..]))),
+    };
+    (name, value.map(OsStr::from_bytes))
+}
+
+/// A value must be what its option takes. Digits are not looked at: the library is to refuse them.
+fn require_value(name: &str, takes: &Value, value: &OsStr) -> Result<(), Failure> {
+    let wrong = match takes {
+        Value::File(_) if value.is_empty() => format!("{name} needs the name of a file, and has an empty one"),
+        Value::Digits(_) if value == "@" => format!("{name} has no name after the @"),
+        Value::Number(_, least, most) if !decimal(value).is_some_and(|number| (*least..=*most).contains(&number)) => {
+            let until = if *most == u64::MAX { "on".to_string() } else { format!("to {most}") };
+            format!("{name} {}, and must be a whole number from {least} {until}", given_number(value))
+        }
+        _ => return Ok(()),
+    };
+    Err(Failure::Usage(wrong))
+}
+
+/// What was given for a number. A long text may be a key, and is not repeated.
+pub fn given_number(value: &OsStr) -> String {
+    match value.len() {
+        0 => "is empty".to_string(),
+        1..=20 => format!("is {}", shown(value)),
+        length => format!("has {length} characters"),
+    }
+}
+
+fn decimal(value: &OsStr) -> Option<u64> {
+    let digits = value.to_str().filter(|text| !text.is_empty() && text.bytes().all(|byte| byte.is_ascii_digit()))?;
+    Some(digits.parse().unwrap_or(u64::MAX))
 }

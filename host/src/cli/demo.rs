@@ -7,11 +7,10 @@ use std::thread;
 use balzenoh::sizes::{padded_blocks, BLOCK};
 use balzenoh::{close, join_list, open, open_into, seal, seal_run, Iv, Key, Kind, Refusal, RunRecord};
 
-use super::args::{Args, Takes};
+use super::args::Args;
 use super::failure::Failure;
-use super::output::{self, Outputs};
-
-pub const DEMO: Takes = Takes { options: &[], flags: &[], operands: 0 };
+use super::output::Outputs;
+use super::standard;
 
 /// The order in which the runs are sealed.
 const ORDER: [usize; 7] = [4, 1, 6, 0, 3, 5, 2];
@@ -48,7 +47,7 @@ pub fn demo(_: &Args, _: &Outputs) -> Result<(), Failure> {
     }
     let Story { checks, wrong, .. } = story;
     story.tell(&format!("\nSummary: {} of {checks} checks as they should be.", checks - wrong));
-    output::print(&story.text)?;
+    standard::print(&story.text)?;
     if wrong == 0 {
         Ok(())
     } else {

@@ -1,64 +1,84 @@
-//! What a command reads: short values on the command line or in files, and the input itself.
+//! The input of a command: a list, a sealed list, or a run of one.
 
-use std::ffi::OsStr;
-use std::fs;
-use std::io::{self, Read};
-use std::os::unix::ffi::OsStrExt;
-use std::path::{Path, PathBuf};
+use balzenoh::sizes::{padded_blocks, AROUND, BLOCK, LIMIT, LONGEST_MESSAGE};
+use balzenoh::Refusal;
 
-use balzenoh::hex;
-
-use super::args::Args;
+use super::args::{given_number, Args};
 use super::failure::Failure;
+use super::faults::Faults;
+use super::names::{counted, grouped, shown};
+use super::source::Source;
+use super::table;
 
-/// A key, IV, tag, mask or record: hexadecimal digits, or `@` and a file. `size` is the number of bytes that it should have. Any
-/// other number is read too: the library is to refuse it.
-pub fn short_value(name: &str, value: &OsStr, size: usize) -> Result<Vec<u8>, Failure> {
-    match file_of(value) {
-        Some(path) => {
-            let bytes = fs::read(&path).map_err(|error| Failure::file(&path, &error))?;
-            Ok(raw_or_digits(bytes, size))
-        }
-        // The value may be a key: it is not repeated in the message.
-        None => value
-            .to_str()
-            .and_then(|text| hex::decode(text).ok())
-            .ok_or_else(|| Failure::Usage(format!("{name} takes pairs of hexadecimal digits, or @ and a file"))),
-    }
+const SHORTEST_SEALED: usize = BLOCK + AROUND;
+const LONGEST_SEALED: usize = LIMIT * BLOCK + AROUND;
+/// Of a run that is too long, one block more than a list may have is read: whole blocks, so that it is refused for their number.
+const LONGEST_RUN: usize = (LIMIT + 1) * BLOCK - 1;
+
+/// A list to seal.
+pub fn list(args: &Args, faults: &mut Faults) -> Result<Vec<u8>, Failure> {
+    let (name, bytes) = read(args, LONGEST_MESSAGE)?;
+    faults.unless(bytes.len() <= LONGEST_MESSAGE, Refusal::Length, || {
+        format!("{name} has more than {} bytes, and no list to seal has more", grouped(LONGEST_MESSAGE))
+    });
+    Ok(bytes)
 }
 
-/// The file that a value of the form `@FILE` names.
-pub fn file_of(value: &OsStr) -> Option<PathBuf> {
-    let path = value.as_bytes().strip_prefix(b"@")?;
-    Some(PathBuf::from(OsStr::from_bytes(path)))
+/// A sealed list.
+pub fn sealed(args: &Args, faults: &mut Faults) -> Result<Vec<u8>, Failure> {
+    let (name, bytes) = read(args, LONGEST_SEALED)?;
+    let fits = (SHORTEST_SEALED..=LONGEST_SEALED).contains(&bytes.len()) && bytes.len().is_multiple_of(BLOCK);
+    faults.unless(fits, Refusal::Length, || {
+        let (least, most) = (grouped(SHORTEST_SEALED), grouped(LONGEST_SEALED));
+        let length = match bytes.len() {
+            length if length > LONGEST_SEALED => format!("more than {most} bytes"),
+            length => counted(length, "byte"),
+        };
+        format!("{name} has {length}, and a sealed list has {least} to {most}, a multiple of {BLOCK}")
+    });
+    Ok(bytes)
 }
 
-/// A file of the right size is taken as it is. One of another size may hold digits and a line end, or else is taken as it is.
-fn raw_or_digits(bytes: Vec<u8>, size: usize) -> Vec<u8> {
-    if bytes.len() == size {
-        return bytes;
-    }
-    let digits = std::str::from_utf8(&bytes).ok().and_then(|text| hex::decode(text.trim()).ok());
-    digits.filter(|digits| !digits.is_empty()).unwrap_or(bytes)
+/// A run of ciphertext.
+pub fn ciphertext(args: &Args, faults: &mut Faults) -> Result<Vec<u8>, Failure> {
+    run(args, "a run of ciphertext", |length| length / BLOCK, faults)
 }
 
-/// An option's short value.
-pub fn option(args: &Args, name: &str, size: usize) -> Result<Vec<u8>, Failure> {
-    short_value(name, args.required(name)?, size)
+/// A run to seal that is not the last.
+pub fn middle_run(args: &Args, faults: &mut Faults) -> Result<Vec<u8>, Failure> {
+    run(args, "a run that is not the last", |length| length / BLOCK, faults)
 }
 
-/// The input: the file that is the operand, or standard input.
-pub fn whole(args: &Args) -> Result<Vec<u8>, Failure> {
-    match args.operands().first() {
-        Some(operand) if operand != "-" => {
-            let path = Path::new(operand);
-            fs::read(path).map_err(|error| Failure::file(path, &error))
-        }
-        _ => {
-            let mut bytes = Vec::new();
-            let read = io::stdin().lock().read_to_end(&mut bytes);
-            read.map_err(|error| Failure::file(Path::new("standard input"), &error))?;
-            Ok(bytes)
-        }
-    }
+/// A run to seal that is the last, and may have any length.
+pub fn last_run(args: &Args, faults: &mut Faults) -> Result<Vec<u8>, Failure> {
+    let (name, bytes) = read(args, LONGEST_RUN)?;
+    judge_blocks(args, &name, padded_blocks(bytes.len()), faults);
+    Ok(bytes)
+}
+
+/// A run of whole blocks.
+fn run(args: &Args, what: &str, blocks: fn(usize) -> usize, faults: &mut Faults) -> Result<Vec<u8>, Failure> {
+    let (name, bytes) = read(args, LONGEST_RUN)?;
+    faults.unless(bytes.len().is_multiple_of(BLOCK), Refusal::Length, || {
+        format!("{name} has {}, and {what} has a multiple of {BLOCK}", counted(bytes.len(), "byte"))
+    });
+    judge_blocks(args, &name, blocks(bytes.len()), faults);
+    Ok(bytes)
+}
+
+fn judge_blocks(args: &Args, name: &str, blocks: usize, faults: &mut Faults) {
+    let first = args.number(table::FIRST).unwrap_or_default();
+    faults.unless(first.saturating_add(blocks as u64) <= LIMIT as u64, Refusal::BeyondLimit, || {
+        let most = grouped(LIMIT);
+        let has = if blocks > LIMIT { format!("more than {most} blocks") } else { counted(blocks, "block") };
+        let first = given_number(args.value(table::FIRST).unwrap_or_default());
+        format!("{name} has {has} and {} {first}, and a list has {most} blocks at most", table::FIRST)
+    });
+}
+
+/// The input's name and bytes, no more than one byte beyond `most`.
+fn read(args: &Args, most: usize) -> Result<(String, Vec<u8>), Failure> {
+    let source = Source::of_input(args.operands().first());
+    let bytes = source.read(most).map_err(|error| Failure::unreadable(source.name(), &error))?;
+    Ok((shown(source.name()), bytes))
 }

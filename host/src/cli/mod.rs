@@ -1,69 +1,90 @@
 //! The commands: finding the one that is meant, running it, and answering for a failure.
 
 mod args;
+mod check;
+mod completions;
 mod demo;
+mod destination;
 mod failure;
+mod faults;
 mod help;
+mod identity;
 mod input;
+mod man;
+mod names;
 mod output;
 mod record;
+mod replace;
 mod run;
+mod source;
+mod spread;
+mod standard;
+mod table;
+mod value;
+mod version;
 mod whole;
 
-use std::ffi::OsString;
+use std::ffi::{OsStr, OsString};
+use std::os::unix::ffi::OsStrExt;
+use std::panic::{catch_unwind, AssertUnwindSafe};
 
-use args::{Args, Takes};
+use args::Args;
 use failure::Failure;
 use output::Outputs;
-
-/// A command: what it takes, what its help says, and what it does.
-struct Command {
-    name: &'static str,
-    takes: Takes,
-    help: &'static str,
-    work: fn(&Args, &Outputs) -> Result<(), Failure>,
-}
-
-const COMMANDS: [Command; 9] = [
-    Command { name: "seal", takes: whole::SEAL, help: help::SEAL, work: whole::seal },
-    Command { name: "open", takes: whole::OPEN, help: help::OPEN, work: whole::open },
-    Command { name: "seal-run", takes: run::SEAL_RUN, help: help::SEAL_RUN, work: run::seal_run },
-    Command { name: "check-run", takes: run::CHECK_RUN, help: help::CHECK_RUN, work: run::check_run },
-    Command { name: "join", takes: record::JOIN, help: help::JOIN, work: record::join },
-    Command { name: "close", takes: record::CLOSE, help: help::CLOSE, work: record::close },
-    Command { name: "test", takes: record::TEST, help: help::TEST, work: record::test },
-    Command { name: "jump", takes: record::JUMP, help: help::JUMP, work: record::jump },
-    Command { name: "demo", takes: demo::DEMO, help: help::DEMO, work: demo::demo },
-];
+use table::{Command, Opt};
 
 /// Runs the program and gives its exit status.
-pub fn run(arguments: impl Iterator<Item = OsString>) -> u8 {
-    match dispatch(arguments) {
-        Ok(()) => 0,
-        Err(failure) => {
-            eprintln!("balzenoh: {failure}");
-            failure.exit_status()
-        }
+pub fn run(mut arguments: impl Iterator<Item = OsString>) -> u8 {
+    let Some(name) = arguments.next() else {
+        return ended(None, Err(Failure::Usage("no command is given".into())));
+    };
+    if is_option(&name, &table::HELP) {
+        return ended(None, help::print_global());
+    }
+    if is_option(&name, &table::VERSION) {
+        return ended(None, version::version());
+    }
+    match table::command(&name) {
+        Some(command) => ended(Some(command.name), run_command(command, arguments)),
+        None => ended(None, Err(no_command(&name))),
     }
 }
 
-fn dispatch(mut arguments: impl Iterator<Item = OsString>) -> Result<(), Failure> {
-    let Some(name) = arguments.next() else {
-        return Err(Failure::Usage("no command given".into()));
-    };
-    if name == "--help" || name == "-h" || name == "help" {
-        return output::print(help::GLOBAL);
+/// Says what went wrong, and gives the exit status.
+fn ended(command: Option<&str>, result: Result<(), Failure>) -> u8 {
+    let Err(failure) = result else { return 0 };
+    if let Some(message) = failure.message(command) {
+        standard::say(message);
     }
-    let command = COMMANDS.iter().find(|command| name == command.name);
-    let command = command.ok_or_else(|| Failure::Usage(format!("there is no command {}", name.display())))?;
-    let args = Args::parse(&command.takes, arguments)?;
+    failure.exit_status()
+}
+
+fn is_option(name: &OsStr, option: &Opt) -> bool {
+    name == option.long || option.short.is_some_and(|short| name == short)
+}
+
+fn no_command(name: &OsStr) -> Failure {
+    let name = names::harmless(name.as_bytes()).filter(|name| !name.is_empty());
+    Failure::Usage(name.map_or("there is no such command".into(), |name| format!("there is no command {name}")))
+}
+
+fn run_command(command: &'static Command, arguments: impl Iterator<Item = OsString>) -> Result<(), Failure> {
+    let args = Args::parse(command, arguments)?;
     if args.wants_help() {
-        return output::print(command.help);
+        return help::print_command(command);
     }
     let outputs = Outputs::new(&args)?;
-    let result = (command.work)(&args, &outputs);
-    if matches!(result, Err(Failure::Refused(_) | Failure::File(_))) {
-        outputs.clear();
+    let Err(failure) = work(&args, &outputs) else { return Ok(()) };
+    if matches!(failure, Failure::Usage(_)) || outputs.clear() {
+        return Err(failure);
     }
-    result
+    // What went wrong is said, but it is the earlier file that decides the exit status.
+    ended(Some(command.name), Err(failure));
+    Err(Failure::StillThere)
+}
+
+/// A fault of the program is no reason to leave an earlier answer.
+fn work(args: &Args, outputs: &Outputs) -> Result<(), Failure> {
+    let work = || outputs.require_usable().and_then(|()| (args.command().work)(args, outputs));
+    catch_unwind(AssertUnwindSafe(work)).unwrap_or(Err(Failure::Fault))
 }

@@ -1,160 +1,155 @@
-//! What a command writes: standard output, or files that appear whole or not at all.
+//! What a command writes: its answer and, for some, a record.
 //!
-//! A file is first written beside its place and then renamed. When the command fails, a file that lay in the place before is
-//! removed: an earlier list must not be taken for the one that was refused.
+//! Unless the exit status is 0, 64 or 73, nothing of an earlier file is left where an answer was to go: an earlier list must not
+//! be taken for the one that was refused.
 
-use std::ffi::OsString;
-use std::fs::{self, File, OpenOptions};
-use std::io::{self, ErrorKind, Write};
-use std::path::{Path, PathBuf};
+use std::io::{self, IsTerminal};
 
 use balzenoh::hex;
 
 use super::args::Args;
+use super::destination::Destination;
 use super::failure::Failure;
-use super::input;
+use super::identity::Identity;
+use super::names::shown;
+use super::replace::{self, Cleared};
+use super::source::Source;
+use super::standard;
+use super::table;
 
-/// The options that name a file to write.
-pub const OUTPUT: &str = "-o";
-pub const RECORD: &str = "--record";
-
-/// The files to write, where they are named.
 pub struct Outputs {
-    pub output: Option<PathBuf>,
-    pub record: Option<PathBuf>,
+    output: Destination,
+    record: Destination,
 }
 
 impl Outputs {
-    /// Finds the named files; `-` is standard output. Each must be a regular file or nothing yet, and none of the inputs or other
-    /// outputs of the command.
+    /// Finds where the answers go. None may go to a file that the command reads, or to that of another answer.
     pub fn new(args: &Args) -> Result<Self, Failure> {
-        let named = |option: &str| args.value(option).filter(|name| *name != "-").map(PathBuf::from);
-        let outputs = Self { output: named(OUTPUT), record: named(RECORD) };
-        let mut taken: Vec<_> = inputs(args).iter().map(|path| place(path)).collect();
-        for path in outputs.files() {
-            require_regular(path)?;
-            if taken.contains(&place(path)) {
-                return Err(Failure::Usage(format!("{} is to be written, and is named twice", path.display())));
-            }
-            taken.push(place(path));
+        let destination = |option: &str| Destination::new(args.value(option));
+        let outputs = Self { output: destination(table::OUTPUT), record: destination(table::RECORD) };
+        outputs.require_distinct(args)?;
+        if args.command().binary {
+            outputs.require_no_terminal()?;
         }
         Ok(outputs)
     }
 
-    fn files(&self) -> impl Iterator<Item = &PathBuf> {
-        self.output.iter().chain(&self.record)
+    fn require_distinct(&self, args: &Args) -> Result<(), Failure> {
+        if args.command().takes(table::OUTPUT) && self.to_stream() && matches!(self.record, Destination::Named) {
+            return Err(Failure::Usage("standard output is to be written for two answers".into()));
+        }
+        // Standard input is somebody's input even where this command does not read it.
+        let sources = args.sources().into_iter().chain([Source::Standard]);
+        let mut taken: Vec<_> = sources.filter_map(|source| Some((source.identity()?, "read"))).collect();
+        for (identity, name) in self.written(args) {
+            if let Some((_, purpose)) = taken.iter().find(|(other, _)| *other == identity) {
+                return Err(Failure::Usage(format!("{name} is to be written, and is {purpose} too: nothing was done")));
+            }
+            taken.push((identity, "written for another answer"));
+        }
+        Ok(())
     }
 
-    /// Leaves nothing in the files' places.
-    pub fn clear(&self) {
-        for path in self.files() {
-            match fs::remove_file(path) {
-                Err(error) if error.kind() != ErrorKind::NotFound => {
-                    eprintln!("balzenoh: an earlier {} is still there, do not use it: {error}", path.display());
+    /// The regular files that are written, with their names.
+    fn written(&self, args: &Args) -> Vec<(Identity, String)> {
+        let named = [(&self.output, table::OUTPUT), (&self.record, table::RECORD)].into_iter();
+        let named = named.filter_map(|(destination, option)| Some((destination.identity()?, shown(args.value(option)?))));
+        let output = Identity::of_stream(io::stdout()).filter(|_| self.to_stream());
+        let record = Identity::of_stream(io::stderr()).filter(|_| self.record_to_error(args));
+        let streams = [(output, "the file at standard output"), (record, "the file at standard error")].into_iter();
+        named.chain(streams.filter_map(|(identity, name)| Some((identity?, name.to_string())))).collect()
+    }
+
+    /// Whether a record goes to standard error, since standard output is for the ciphertext.
+    fn record_to_error(&self, args: &Args) -> bool {
+        let gives_both = [table::OUTPUT, table::RECORD].iter().all(|name| args.command().takes(name));
+        gives_both && matches!(self.record, Destination::Usual)
+    }
+
+    fn to_stream(&self) -> bool {
+        matches!(self.output, Destination::Named | Destination::Usual)
+    }
+
+    /// A terminal gets no bytes that are no text, unless it was asked for.
+    fn require_no_terminal(&self) -> Result<(), Failure> {
+        if matches!(self.output, Destination::Usual) && io::stdout().is_terminal() {
+            return Err(Failure::Usage(
+                "the answer is not text, and is not written to a terminal: name a file with -o, or -o -".into(),
+            ));
+        }
+        Ok(())
+    }
+
+    pub fn require_usable(&self) -> Result<(), Failure> {
+        self.output.require_usable().and_then(|()| self.record.require_usable())
+    }
+
+    /// Leaves nothing of an earlier answer, or says what became of it. The answer is whether nothing is left.
+    pub fn clear(&self) -> bool {
+        let mut all_gone = true;
+        for destination in [&self.output, &self.record] {
+            let Destination::File(path) = destination else { continue };
+            let name = shown(path);
+            match replace::clear(path) {
+                Cleared::Gone => {}
+                Cleared::Emptied(error) => {
+                    standard::say(format!("what lay there before cannot be removed ({error}): {name} is now empty"))
                 }
-                _ => {}
+                Cleared::StillThere(error) => {
+                    let is = if path.exists() { "is" } else { "may be" };
+                    standard::say(format!(
+                        "{name} {is} still there, do not use it: it can be neither removed nor emptied ({error})"
+                    ));
+                    all_gone = false;
+                }
             }
         }
+        all_gone
     }
 
-    /// Writes a text or ciphertext to the output file or to standard output.
+    /// Writes a sealed list or a ciphertext.
     pub fn write(&self, bytes: &[u8]) -> Result<(), Failure> {
-        match &self.output {
-            Some(path) => write_file(path, bytes),
-            None => write_standard(bytes),
+        self.output.write(bytes, false, standard::answer)
+    }
+
+    /// Writes an opened list. A terminal gets it where it is text.
+    pub fn write_list(&self, list: &[u8]) -> Result<(), Failure> {
+        if !is_text(list) {
+            self.require_no_terminal()?;
         }
+        self.write(list)
     }
 
-    /// Writes a tag to the output file, or as digits to standard output.
+    /// Writes a tag as bytes to a file, or as digits to standard output.
     pub fn write_tag(&self, tag: &[u8]) -> Result<(), Failure> {
-        file_or_digits(&self.output, tag)
+        self.output.write(tag, false, print_digits)
     }
 
-    /// Writes a record to the record file, or as digits to standard output.
+    /// Writes a record as bytes to a file, or as digits to standard output.
     pub fn write_record(&self, record: &[u8]) -> Result<(), Failure> {
-        file_or_digits(&self.record, record)
+        self.record.write(record, true, print_digits)
     }
-}
 
-fn file_or_digits(path: &Option<PathBuf>, bytes: &[u8]) -> Result<(), Failure> {
-    match path {
-        Some(path) => write_file(path, bytes),
-        None => print_digits(bytes),
+    /// Writes a record as bytes to a file, or as digits to standard error, since standard output gets the ciphertext.
+    pub fn write_second_record(&self, record: &[u8]) -> Result<(), Failure> {
+        let usual = |bytes: &[u8]| standard::answer_on_error(line_of_digits(bytes).as_bytes());
+        match self.record {
+            Destination::Named => self.write_record(record),
+            _ => self.record.write(record, true, usual),
+        }
     }
 }
 
 /// Writes bytes as a line of digits to standard output.
 pub fn print_digits(bytes: &[u8]) -> Result<(), Failure> {
-    print(&format!("{}\n", hex::encode(bytes)))
+    standard::answer(line_of_digits(bytes).as_bytes())
 }
 
-/// Writes text to standard output.
-pub fn print(text: &str) -> Result<(), Failure> {
-    write_standard(text.as_bytes())
+fn line_of_digits(bytes: &[u8]) -> String {
+    format!("{}\n", hex::encode(bytes))
 }
 
-fn write_standard(bytes: &[u8]) -> Result<(), Failure> {
-    let mut standard = io::stdout().lock();
-    let written = standard.write_all(bytes).and_then(|()| standard.flush());
-    written.map_err(|error| Failure::file(Path::new("standard output"), &error))
-}
-
-/// Writes a file beside its place, then renames it.
-pub fn write_file(path: &Path, bytes: &[u8]) -> Result<(), Failure> {
-    let (beside, file) = create_beside(path).map_err(|error| Failure::file(path, &error))?;
-    let written = fill(file, bytes).and_then(|()| fs::rename(&beside, path));
-    written.map_err(|error| {
-        // The failure itself is reported; a leftover beside the place is not taken for a list.
-        let _ = fs::remove_file(&beside);
-        Failure::file(path, &error)
-    })
-}
-
-fn fill(mut file: File, bytes: &[u8]) -> io::Result<()> {
-    file.write_all(bytes)?;
-    file.sync_all()
-}
-
-/// A new file in the same folder, under a name that nobody else has.
-fn create_beside(path: &Path) -> io::Result<(PathBuf, File)> {
-    let mut attempt = 0;
-    loop {
-        let mut name = OsString::from(".");
-        name.push(path.file_name().ok_or(ErrorKind::InvalidInput)?);
-        name.push(format!(".{}-{attempt}.part", std::process::id()));
-        let beside = path.with_file_name(name);
-        match OpenOptions::new().write(true).create_new(true).open(&beside) {
-            Err(error) if error.kind() == ErrorKind::AlreadyExists && attempt < 100 => attempt += 1,
-            result => return result.map(|file| (beside, file)),
-        }
-    }
-}
-
-/// A device or folder is neither replaced nor removed.
-fn require_regular(path: &Path) -> Result<(), Failure> {
-    match fs::symlink_metadata(path) {
-        Ok(found) if !found.is_file() => {
-            Err(Failure::File(format!("{} is not a regular file. Without {OUTPUT}, standard output is written", path.display())))
-        }
-        _ => Ok(()),
-    }
-}
-
-/// The files that the command reads, and those that it might.
-fn inputs(args: &Args) -> Vec<PathBuf> {
-    let operands = args.operands().iter().map(PathBuf::from);
-    let values = args.values().filter_map(input::file_of);
-    operands.chain(values).collect()
-}
-
-/// A path by which two names of one file are the same.
-fn place(path: &Path) -> PathBuf {
-    if let Ok(found) = path.canonicalize() {
-        return found;
-    }
-    let folder = path.parent().filter(|folder| !folder.as_os_str().is_empty()).unwrap_or(Path::new("."));
-    match (folder.canonicalize(), path.file_name()) {
-        (Ok(folder), Some(name)) => folder.join(name),
-        _ => path.to_path_buf(),
-    }
+/// Whether a terminal shows these bytes as they are.
+fn is_text(bytes: &[u8]) -> bool {
+    std::str::from_utf8(bytes).is_ok_and(|text| !text.chars().any(|c| c.is_control() && !matches!(c, '\n' | '\r' | '\t')))
 }

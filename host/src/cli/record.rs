@@ -1,57 +1,86 @@
 //! `join`, `close`, `test` and `jump`: the calls on short values only.
 
-use balzenoh::sizes::{BLOCK, RECORD};
-use balzenoh::{join_list, raw, RunRecord};
+use balzenoh::sizes::{BLOCK, LIMIT, RECORD};
+use balzenoh::{raw, Refusal, RunRecord};
 
-use super::args::{Args, Takes};
+use super::args::{given_number, Args};
 use super::failure::Failure;
-use super::input;
+use super::faults::Faults;
+use super::names::grouped;
 use super::output::{self, Outputs};
+use super::run::block_number;
+use super::{standard, table, value};
 
-pub const JOIN: Takes = Takes { options: &["--record"], flags: &[], operands: usize::MAX };
-pub const CLOSE: Takes = Takes { options: &["--key", "--iv", "-o"], flags: &[], operands: 1 };
-pub const TEST: Takes = Takes { options: &["--key", "--iv", "--tag"], flags: &[], operands: 1 };
-pub const JUMP: Takes = Takes { options: &["--mask", "--distance"], flags: &[], operands: 0 };
+pub fn join(args: &Args, outputs: &Outputs) -> Result<(), Failure> {
+    let mut faults = Faults::default();
+    let mut records = Vec::new();
+    for (index, operand) in args.operands().iter().enumerate() {
+        let name = format!("RECORD {}", index + 1);
+        let record = value::record(&name, operand, &mut faults)?;
+        judge_blocks(&name, &record, &mut faults);
+        records.push(record);
+    }
+    let joined = join_all(&records).map_err(|refusal| faults.explain(refusal))?;
+    outputs.write_record(&joined)
+}
 
 /// Two records are joined as a pair, any other number as a list.
-pub fn join(args: &Args, outputs: &Outputs) -> Result<(), Failure> {
-    let mut records = Vec::new();
-    for operand in args.operands() {
-        records.push(RunRecord::from_bytes(&input::short_value("RECORD", operand, RECORD)?)?);
+fn join_all(records: &[Vec<u8>]) -> Result<[u8; RECORD], Refusal> {
+    if records.iter().any(|record| record.len() != RECORD) {
+        return Err(Refusal::RecordLength);
     }
-    let joined = match &records[..] {
-        [left, right] => left.join(right)?,
-        _ => join_list(&records)?,
-    };
-    outputs.write_record(&joined.to_bytes())
+    let mut joined = [0; RECORD];
+    match records {
+        [left, right] => raw::join(left, right, &mut joined)?,
+        _ => raw::join_list(&records.concat(), &mut joined)?,
+    }
+    Ok(joined)
 }
 
 pub fn close(args: &Args, outputs: &Outputs) -> Result<(), Failure> {
-    let (key, iv) = (input::option(args, "--key", BLOCK)?, input::option(args, "--iv", BLOCK)?);
-    let record = one_record(args)?;
+    let mut faults = Faults::default();
+    let (key, iv) = (value::key(args, &mut faults)?, value::iv(args, &mut faults)?);
+    let record = one_record(args, &mut faults)?;
     let mut tag = [0; BLOCK];
-    raw::close(&key, &iv, &record, &mut tag)?;
+    raw::close(&key, &iv, &record, &mut tag).map_err(|refusal| faults.explain(refusal))?;
     outputs.write_tag(&tag)
 }
 
 pub fn test(args: &Args, _: &Outputs) -> Result<(), Failure> {
-    let (key, iv) = (input::option(args, "--key", BLOCK)?, input::option(args, "--iv", BLOCK)?);
-    let tag = input::option(args, "--tag", BLOCK)?;
-    raw::test(&key, &iv, &one_record(args)?, &tag)?;
-    output::print("passes\n")
+    let mut faults = Faults::default();
+    let (key, iv) = (value::key(args, &mut faults)?, value::iv(args, &mut faults)?);
+    let (tag, record) = (value::tag(args, &mut faults)?, one_record(args, &mut faults)?);
+    raw::test(&key, &iv, &record, &tag).map_err(|refusal| faults.explain(refusal))?;
+    standard::print("passes\n")
 }
 
 pub fn jump(args: &Args, _: &Outputs) -> Result<(), Failure> {
-    let mask = input::option(args, "--mask", BLOCK)?;
+    let mut faults = Faults::default();
+    let mask = value::mask(args, &mut faults)?;
+    let given = given_number(args.value(table::DISTANCE).unwrap_or_default());
+    faults.add(Refusal::BeyondLimit, format!("{} {given}, and a mask jumps by 0 to {} blocks", table::DISTANCE, grouped(LIMIT)));
     let mut jumped = [0; BLOCK];
-    raw::jump(&mask, args.required_number("--distance")?, &mut jumped)?;
+    let distance = block_number(args, table::DISTANCE);
+    raw::jump(&mask, distance, &mut jumped).map_err(|refusal| faults.explain(refusal))?;
     output::print_digits(&jumped)
 }
 
 /// The record that is the operand.
-fn one_record(args: &Args) -> Result<Vec<u8>, Failure> {
-    match args.operands() {
-        [operand] => input::short_value("RECORD", operand, RECORD),
-        _ => Err(Failure::Usage("the record is missing".into())),
-    }
+fn one_record(args: &Args, faults: &mut Faults) -> Result<Vec<u8>, Failure> {
+    let name = "RECORD";
+    let record = value::record(name, args.operands().first().map(|operand| operand.as_os_str()).unwrap_or_default(), faults)?;
+    judge_blocks(name, &record, faults);
+    Ok(record)
+}
+
+fn judge_blocks(name: &str, record: &[u8], faults: &mut Faults) {
+    let Ok(record) = RunRecord::from_bytes(record) else { return };
+    let (first, count) = (record.first, record.count);
+    faults.unless(u64::from(first) + u64::from(count) <= LIMIT as u64, Refusal::BeyondLimit, || {
+        format!("{name} has {} from block {first} on, and a list has {} at most", blocks(count), grouped(LIMIT))
+    });
+}
+
+fn blocks(count: u32) -> String {
+    format!("{count} block{}", if count == 1 { "" } else { "s" })
 }

@@ -1,34 +1,37 @@
 //! `seal-run` and `check-run`.
 
-use balzenoh::sizes::{run_room, BLOCK, RECORD};
-use balzenoh::{hex, raw};
+use balzenoh::raw;
+use balzenoh::sizes::{run_room, RECORD};
 
-use super::args::{Args, Takes};
+use super::args::Args;
 use super::failure::Failure;
-use super::input;
-use super::output::{self, Outputs};
-
-pub const SEAL_RUN: Takes = Takes { options: &["--key", "--iv", "--first", "--record", "-o"], flags: &["--last"], operands: 1 };
-pub const CHECK_RUN: Takes = Takes { options: &["--key", "--iv", "--first", "--record"], flags: &[], operands: 1 };
+use super::faults::Faults;
+use super::output::Outputs;
+use super::{input, table, value};
 
 pub fn seal_run(args: &Args, outputs: &Outputs) -> Result<(), Failure> {
-    let (key, iv) = (input::option(args, "--key", BLOCK)?, input::option(args, "--iv", BLOCK)?);
-    let (first, last) = (args.required_number("--first")?, args.flag("--last"));
-    let bytes = input::whole(args)?;
+    let mut faults = Faults::default();
+    let (key, iv) = (value::key(args, &mut faults)?, value::iv(args, &mut faults)?);
+    let last = args.flag(table::LAST);
+    let bytes = if last { input::last_run(args, &mut faults)? } else { input::middle_run(args, &mut faults)? };
     let (mut out, mut record) = (vec![0; run_room(bytes.len(), last)], [0; RECORD]);
-    let length = raw::seal_run(&key, &iv, first, last, &bytes, &mut out, &mut record)?;
-    match &outputs.record {
-        Some(path) => output::write_file(path, &record)?,
-        None => eprintln!("{}", hex::encode(&record)),
-    }
+    let sealed = raw::seal_run(&key, &iv, block_number(args, table::FIRST), last, &bytes, &mut out, &mut record);
+    let length = sealed.map_err(|refusal| faults.explain(refusal))?;
+    outputs.write_second_record(&record)?;
     outputs.write(&out[..length])
 }
 
 pub fn check_run(args: &Args, outputs: &Outputs) -> Result<(), Failure> {
-    let (key, iv) = (input::option(args, "--key", BLOCK)?, input::option(args, "--iv", BLOCK)?);
-    let first = args.required_number("--first")?;
-    let ciphertext = input::whole(args)?;
+    let mut faults = Faults::default();
+    let (key, iv) = (value::key(args, &mut faults)?, value::iv(args, &mut faults)?);
+    let ciphertext = input::ciphertext(args, &mut faults)?;
     let mut record = [0; RECORD];
-    raw::check_run(&key, &iv, first, &ciphertext, &mut record)?;
+    let checked = raw::check_run(&key, &iv, block_number(args, table::FIRST), &ciphertext, &mut record);
+    checked.map_err(|refusal| faults.explain(refusal))?;
     outputs.write_record(&record)
+}
+
+/// A number of blocks for the library, which refuses the largest as it would refuse any larger one.
+pub fn block_number(args: &Args, name: &str) -> u32 {
+    args.number(name).map_or(0, |number| u32::try_from(number).unwrap_or(u32::MAX))
 }

@@ -1,9 +1,16 @@
 //! Runs the program in a folder of its own.
 
-use std::fs;
+use std::ffi::OsStr;
+use std::fs::{self, Permissions};
 use std::io::Write;
-use std::path::PathBuf;
+use std::os::unix::fs::{MetadataExt, PermissionsExt};
+use std::os::unix::process::CommandExt;
+use std::path::{Path, PathBuf};
 use std::process::{Command, Stdio};
+
+const PROGRAM: &str = env!("CARGO_BIN_EXE_balzenoh");
+/// A user who may write nothing of others, where the tests run as root.
+const NOBODY: u32 = 65534;
 
 /// A folder for one test; it goes away with the value.
 pub struct Folder(PathBuf);
@@ -38,24 +45,66 @@ impl Folder {
         names
     }
 
-    pub fn run(&self, arguments: &[&str]) -> Run {
+    pub fn path(&self) -> &Path {
+        &self.0
+    }
+
+    /// The permission bits of a file, links followed.
+    pub fn mode(&self, name: &str) -> u32 {
+        fs::metadata(self.0.join(name)).expect("a file").mode() & 0o7777
+    }
+
+    pub fn set_mode(&self, name: &str, mode: u32) {
+        fs::set_permissions(self.0.join(name), Permissions::from_mode(mode)).expect("the mode is set");
+    }
+
+    pub fn run<A: AsRef<OsStr>>(&self, arguments: &[A]) -> Run {
         self.feed(arguments, b"")
     }
 
+    /// The commands that the help lists.
+    pub fn commands(&self) -> Vec<String> {
+        let help = self.run(&["--help"]).exits(0).text();
+        let listed = help.lines().skip_while(|line| !line.starts_with("  seal ")).take_while(|line| !line.is_empty());
+        listed.filter_map(|line| line.split_whitespace().next().map(str::to_string)).collect()
+    }
+
     /// Runs the program with this standard input.
-    pub fn feed(&self, arguments: &[&str], input: &[u8]) -> Run {
-        let mut child = Command::new(env!("CARGO_BIN_EXE_balzenoh"))
-            .args(arguments)
-            .current_dir(&self.0)
-            .stdin(Stdio::piped())
-            .stdout(Stdio::piped())
-            .stderr(Stdio::piped())
-            .spawn()
-            .expect("the program starts");
+    pub fn feed<A: AsRef<OsStr>>(&self, arguments: &[A], input: &[u8]) -> Run {
+        self.finish(Command::new(PROGRAM).args(arguments), input)
+    }
+
+    /// Runs a line of shell, in which `$B` is the program, `$K` a key and `$I` an IV.
+    pub fn shell(&self, line: &str) -> Run {
+        let values = [("B", PROGRAM), ("K", crate::KEY), ("I", crate::IV)];
+        self.finish(Command::new("bash").arg("-c").arg(line).envs(values), b"")
+    }
+
+    /// Runs the program as a user to whom the modes of files apply, where such a one can run it.
+    pub fn run_unprivileged(&self, arguments: &[&str]) -> Option<Run> {
+        if self.unprivileged().arg("--version").stdout(Stdio::null()).status().is_err() {
+            eprintln!("left out: nobody but root can run {PROGRAM}");
+            return None;
+        }
+        Some(self.finish(self.unprivileged().args(arguments), b""))
+    }
+
+    fn unprivileged(&self) -> Command {
+        let mut command = Command::new(PROGRAM);
+        command.current_dir(&self.0);
+        if fs::metadata("/proc/self").is_ok_and(|own| own.uid() == 0) {
+            command.uid(NOBODY).gid(NOBODY);
+        }
+        command
+    }
+
+    fn finish(&self, command: &mut Command, input: &[u8]) -> Run {
+        command.current_dir(&self.0).stdin(Stdio::piped()).stdout(Stdio::piped()).stderr(Stdio::piped());
+        let mut child = command.spawn().expect("the program starts");
         // A program that needs no input may have ended by now.
         let _ = child.stdin.take().expect("a pipe").write_all(input);
         let output = child.wait_with_output().expect("the program ends");
-        let stderr = String::from_utf8(output.stderr).expect("text");
+        let stderr = String::from_utf8_lossy(&output.stderr).into_owned();
         Run { status: output.status.code(), stdout: output.stdout, stderr }
     }
 }
@@ -75,6 +124,17 @@ impl Run {
 
     pub fn prints(&self, expected: &[u8]) {
         assert!(self.stdout == expected, "printed {:?}", String::from_utf8_lossy(&self.stdout));
+    }
+
+    /// Holds that the messages have this text.
+    pub fn tells(self, text: &str) -> Self {
+        assert!(self.stderr.contains(text), "{text:?} is not in {:?}", self.stderr);
+        self
+    }
+
+    /// Standard output as text.
+    pub fn text(&self) -> String {
+        String::from_utf8(self.stdout.clone()).expect("text")
     }
 }
 

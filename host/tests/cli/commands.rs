@@ -1,12 +1,8 @@
-//! The program from the outside: every command, the exit statuses, and what is left in files.
+//! Every command, and the exit statuses.
 
-#[path = "support/program.rs"]
-mod program;
+use crate::program::{digits, Folder};
+use crate::{IV, KEY};
 
-use program::{digits, Folder};
-
-const KEY: &str = "000102030405060708090A0B0C0D0E0F";
-const IV: &str = "0123456789ABCDEF0123456789ABCDEF";
 const M1: &str = "00112233445566778899AABBCCDDEEFF";
 const C1: &str = "030F28E63B8A9C570D7FEF31940226F4";
 const A1: &str = "C31FDB743AA199CB78AA156AED162EB9";
@@ -127,15 +123,13 @@ fn wrong_usage_leaves_files_alone() {
     let folder = Folder::new("usage");
     folder.write("list", b"a list");
     folder.write("key", &digits(KEY));
-    folder.run(&["open", "--key", "XYZ", "-o", "list"]).exits(64);
     folder.run(&["open", "--key", KEY, "./list", "-o", "list"]).exits(64);
     folder.run(&["open", "--key", "@key", "list", "-o", "key"]).exits(64);
     folder.run(&["seal-run", "--key", KEY, "--iv", IV, "--first", "0", "list", "-o", "new", "--record", "./new"]).exits(64);
     assert_eq!(folder.read("list"), Some(b"a list".to_vec()));
     assert_eq!(folder.names(), ["key", "list"]);
-    // Neither a folder nor a device is replaced.
+    // A folder is not replaced.
     folder.feed(&["seal", "--key", KEY, "--iv", IV, "-o", "."], b"").exits(74);
-    folder.feed(&["seal", "--key", KEY, "--iv", IV, "-o", "/dev/null"], b"").exits(74);
     folder.feed(&["seal", "--key", KEY, "--iv", IV, "-o", "missing/sealed"], b"").exits(74);
     assert_eq!(folder.names(), ["key", "list"]);
 }
@@ -180,7 +174,8 @@ fn masks_jump() {
     jump("128").exits(0).prints(b"00000000000000000000000000000087\n");
     jump("4000").exits(0);
     jump("4001").exits(4);
-    jump("4294967296").exits(64);
+    jump("4294967296").exits(4);
+    jump("99999999999999999999999").exits(4);
     jump("-1").exits(64);
 }
 
@@ -233,7 +228,7 @@ fn every_command_has_its_help() {
     let folder = Folder::new("help");
     let global = String::from_utf8(folder.run(&["--help"]).exits(0).stdout).expect("text");
     assert!(global.contains("REMOVED") && global.contains("EXIT STATUS"));
-    for command in ["seal", "open", "seal-run", "check-run", "join", "close", "test", "jump", "demo"] {
+    for command in ["seal", "open", "check", "seal-run", "check-run", "join", "close", "test", "jump", "demo"] {
         assert!(global.contains(&format!("\n  {command} ")));
         let help = folder.run(&[command, "--help"]).exits(0).stdout;
         assert!(help.starts_with(format!("balzenoh {command}").as_bytes()));

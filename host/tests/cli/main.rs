@@ -1,0 +1,17 @@
+//! The program from the outside.
+
+mod bounds;
+mod commands;
+mod completions;
+mod inputs;
+mod left_behind;
+mod manual;
+mod messages;
+mod modes;
+mod options;
+#[path = "../support/program.rs"]
+mod program;
+mod streams;
+
+const KEY: &str = "000102030405060708090A0B0C0D0E0F";
+const IV: &str = "0123456789ABCDEF0123456789ABCDEF";
