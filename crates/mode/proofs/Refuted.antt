@@ -45,6 +45,12 @@ module _ (m : Calls) (d : Demand3 toy m) where
   unfolding computed
   short-forced = one 15 .answers .0 .too-short (lit< tt)
 
+  short-zero : (m .seals-run aKey anIv 0 last [] 15) .output ≡ replicate 15 0
+  short-zero = short-forced .writes
+
+  short-unreported : (m .seals-run aKey anIv 0 last [] 15) .reported ≡ 0
+  short-unreported = short-forced .reports
+
   one-left : afterAll m onePiece (start onePiece) (runAt 0 16 ∷ []) ≡ recorded (record { first = 0; kind = last; bytes = [] } ∷ []) oneRecord oneText ∷ []
   unfolding computed
   one-left = rw (run-forced .answers, run-forced .reports, run-forced .writes)
