@@ -63,7 +63,7 @@ pub fn test(key: &[u8], iv: &[u8], run: &[u8], tag: &[u8]) -> u8
     balzenoh::tag::balzenoh_test(key, iv, run, tag)
 }
 
-pub fn jump(mask: &[u8], distance: u32, out: &mut [u8]) -> u8
+pub fn jump(mask: &[u8], distance: i32, out: &mut [u8]) -> u8
     ensures { λ n. ⌜ ReturnedAs (jumpMask (now (mask .entry)) distance (lengthOf (now (out .entry)))) n (now (out .exit)) ⌝ }
 {
     balzenoh::mask::balzenoh_jump(mask, distance, out)

@@ -4,6 +4,7 @@ use mathlib.Core.Path.{_≡_}
 use mathlib.Core.Logic.{_⊎_}
 use mathlib.Core.List.{List, [], _∷_}
 use Prim.Native.Nat.{ℕ}
+use lib.IntN.{ℤ}
 use Rattle.blocks.specs.Bytes.{zeros}
 use Rattle.mode.specs.Aes.{aes}
 use Rattle.mode.specs.Calls.{Outcome, seal, openSealed, jumpMask, number}
@@ -36,4 +37,4 @@ pub record Promises : Type 0 where
   pub of-join-list : (records : List ℕ) (room : ℕ) → Promised (0 ∷ 24 ∷ 4 ∷ 8 ∷ 9 ∷ 5 ∷ []) (lentRecord (joinListBytes records) room) room
   pub of-close : (key iv run : List ℕ) (room : ℕ) → Promised (0 ∷ 24 ∷ 1 ∷ 2 ∷ 4 ∷ 9 ∷ 5 ∷ []) (lentTag (closeBytes key iv run) room) room
   pub of-test : (key iv run tag : List ℕ) → OneOf (0 ∷ 24 ∷ 1 ∷ 2 ∷ 3 ∷ 4 ∷ 9 ∷ 6 ∷ []) (testBytes key iv run tag)
-  pub of-jump : (mask : List ℕ) (distance room : ℕ) → Promised (0 ∷ 3 ∷ 4 ∷ 5 ∷ []) (jumpMask mask distance room) room
+  pub of-jump : (mask : List ℕ) (distance : ℤ) (room : ℕ) → Promised (0 ∷ 3 ∷ 4 ∷ 5 ∷ []) (jumpMask mask distance room) room

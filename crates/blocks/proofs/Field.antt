@@ -110,9 +110,6 @@ module _ (k p : ℕ) where
       basis (suc k) (λ z. mul k p z b) (mul k p b) (mul-left b) (mul-right b)
       (λ i h. mul-pow i b h ∙ sym (ap (mul k p b) (sym (steps-one i h)) ∙ mul-steps i b 1 ∙ ap (steps k p i) (mul-one b hb))) a ha
 
-  one-lt : 0 < k → 1 < 2 ^ suc k
-  one-lt h = pow-lt (suc-le-suc zero-le)
-
   -- ---- bounds, and what needs them
   module _ (hp : p < 2 ^ suc k) where
     pub step-lt : (a : ℕ) → step k p a < 2 ^ suc k
@@ -145,15 +142,3 @@ module _ (k p : ℕ) where
     mul-assoc a b c ha hb hc =
         basis (suc k) (λ z. mul k p (mul k p z b) c) (λ z. mul k p z (mul k p b c)) (linear-of (λ z. mul k p z c) (λ z. mul k p z b) (mul-left c) (mul-left b)) (mul-left (mul k p b c))
         (λ i h. ap (λ (z : ℕ). mul k p z c) (mul-pow i b h) ∙ steps-mul i b c hb hc ∙ sym (mul-pow i (mul k p b c) h)) a ha
-
-    -- the product with x^n
-    pub power-mul : (n b : ℕ) → 0 < k → b < 2 ^ suc k → mul k p (steps k p n 1) b ≡ steps k p n b
-    power-mul n b hk hb =
-        steps-mul n 1 b (one-lt hk) hb ∙ ap (steps k p n) (mul-comm 1 b (one-lt hk) hb ∙ mul-one b hb)
-
-    -- from x^(n / 2) to x^n
-    pub power-next : (n q : ℕ) → 0 < k → q ≡ steps k p (n / 2) 1 → steps k p (n % 2) (mul k p q q) ≡ steps k p n 1
-    power-next n q hk e =
-        let m : n % 2 + (n / 2 + n / 2) ≡ n = omega arith in
-        ap (steps k p (n % 2)) (ap₂ (mul k p) e e ∙ power-mul (n / 2) (steps k p (n / 2) 1) hk (steps-lt (n / 2) 1 (one-lt hk)) ∙ sym (steps-add (n / 2) (n / 2) 1))
-        ∙ sym (steps-add (n % 2) (n / 2 + n / 2) 1) ∙ ap (λ (z : ℕ). steps k p z 1) m

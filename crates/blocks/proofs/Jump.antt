@@ -1,23 +1,26 @@
--- The power x^n by repeated squaring, as the code does it: a square is two halves of spread bits, and the upper one, which stands for
+-- A power of x by repeated squaring, as the code does it: a square is two halves of spread bits, and the upper one, which stands for
 -- x^128 times its block, is brought down by x^128 = x^7 + x^2 + x + 1.
 use mathlib.Core.Path.{_≡_, refl, sym, ap, ap₂, _∙_}
+use mathlib.Core.Bool.{Bool}
 use mathlib.Core.List.{List}
 use Prim.Native.Nat.{ℕ, _+_, _*_, _-_, _/_, _%_, _^_, _<_}
 use native.Mathlib.Omega.{arith}
 use lib.Pow.{shr-shr}
 use lib.Bits.{bitXor}
 use lib.Dec.{lit<}
+use lib.IntN.{ℤ, _+ℤ_}
 use lib.ListN.{take, drop}
 use Rattle.blocks.specs.Bytes.{Block, xorBytes}
 use Rattle.blocks.specs.Field.{step, steps, mul}
-use Rattle.blocks.specs.Gf128.{timesX, jump, num, product, power}
+use Rattle.blocks.specs.Gf128.{timesX, jump, jumpBy, signed, num, product, one, power}
 use Rattle.blocks.specs.Spread.{spreadBytes}
-use Rattle.blocks.proofs.Field.{steps-add, steps-one, mul-right, mul-one, mul-steps, power-next}
+use Rattle.blocks.proofs.Field.{steps-add, steps-one, mul-right, mul-one, mul-steps}
 use Rattle.blocks.proofs.Square.{square-halves}
 use Rattle.blocks.proofs.XorBytes.{block-xor}
-use Rattle.blocks.proofs.TimesX.{block-jump, block-power}
-use Rattle.blocks.proofs.Num.{same-block, block-lt, num-xor, num-jump}
-use Rattle.blocks.proofs.Product.{poly-lt, block-product, num-product, product-is, num-power}
+use Rattle.blocks.proofs.TimesX.{block-jump, block-one}
+use Rattle.blocks.proofs.JumpBy.{block-power, jumpBy-add, signed-add}
+use Rattle.blocks.proofs.Num.{block-lt, num-xor, num-jump}
+use Rattle.blocks.proofs.Product.{poly-lt, product-is, product-power}
 use Rattle.blocks.proofs.Spread.{spread-halves}
 
 -- ---- x^128 times a block
@@ -83,15 +86,19 @@ squared a h l r ba bh bl br eh el er =
     (er ∙ square-halves 127 0x87 poly-lt (num a) (num h) (num l) (block-lt a ba)
     (spread-halves a ba ∙ ap₂ (λ (x y : ℕ). x * 2 ^ 128 + y) (ap num (sym eh)) (ap num (sym el))) (block-lt h bh) (block-lt l bl))
 
--- from x^(n / 2) to x^n
-pub power-half : (n : ℕ) (q : List ℕ) → q ≡ power (n / 2) → jump (n % 2) (product q q) ≡ power n
-power-half n q e =
-    let bq : Block (power (n / 2)) = block-power (n / 2) in
-    let p = power (n / 2) in
-    ap (λ (z : List ℕ). jump (n % 2) (product z z)) e
-    ∙ same-block (block-jump (n % 2) (product p p) (block-product p p)) (block-power n)
-    (num-jump (n % 2) (product p p) (block-product p p) ∙ ap (steps 127 0x87 (n % 2)) (num-product p p bq)
-    ∙ power-next 127 0x87 poly-lt n (num p) (lit< tt) (num-power (n / 2)) ∙ sym (num-power n))
+-- the square of x^d, times x^e
+square-times : (d e : ℤ) → jumpBy e (product (power d) (power d)) ≡ power (e +ℤ (d +ℤ d))
+unfolding power
+square-times d e =
+    ap (jumpBy e) (product-power d (power d) (block-power d) ∙ sym (jumpBy-add d d one block-one)) ∙ sym (jumpBy-add e (d +ℤ d) one block-one)
+
+-- from the power n / 2 to the power n, either way
+pub power-half : (back : Bool) (n : ℕ) (q : List ℕ) → q ≡ power (signed back (n / 2)) → jumpBy (signed back (n % 2)) (product q q) ≡ power (signed back n)
+power-half back n q e =
+    let d = signed back (n / 2) in
+    let m : n % 2 + (n / 2 + n / 2) ≡ n = omega arith in
+    ap (λ (z : List ℕ). jumpBy (signed back (n % 2)) (product z z)) e ∙ square-times d (signed back (n % 2))
+    ∙ ap power (ap (λ (z : ℤ). signed back (n % 2) +ℤ z) (sym (signed-add back (n / 2) (n / 2))) ∙ sym (signed-add back (n % 2) (n / 2 + n / 2)) ∙ ap (signed back) m)
 
 -- n without its j low bits, and without one more
 pub one-bit-less : (n j : ℕ) → 0 < j → n / 2 ^ (j - 1) / 2 ≡ n / 2 ^ j

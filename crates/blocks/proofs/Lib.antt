@@ -1,5 +1,5 @@
--- The laws that callers cite. Numbers: Xor, Linear, Field, Square. Lists: XorBytes, Same, Tab, Chunks, Array, Zeros. Blocks as polynomials: TimesX, Num,
--- Product, Horner, Spread, Jump. Test: a rule of many numbers by one computed test.
+-- The laws that callers cite. Numbers: Xor, Linear, Field, Square. Lists: XorBytes, Same, Tab, Chunks, Array, Zeros. Blocks as polynomials: TimesX,
+-- OverX, JumpBy, Num, Product, Horner, Spread, Jump. Test: a rule of many numbers by one computed test.
 pub mod Test
 pub mod Xor
 pub mod Linear
@@ -12,6 +12,9 @@ pub mod Zeros
 pub mod Field
 pub mod Square
 pub mod TimesX
+pub mod OverX
+pub mod JumpBy
+pub mod Sign
 pub mod Num
 pub mod Product
 pub mod Horner

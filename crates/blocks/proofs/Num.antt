@@ -7,7 +7,7 @@ use native.Mathlib.Nat.{suc-mul, mul-comm, mul-assoc, add-mul, add-comm, zero-ad
 use native.Mathlib.Numerals.{add-one}
 use native.Mathlib.Omega.{arith}
 use lib.Arith.{digits-lt, digits-div, digits-mod}
-use lib.Bits.{bitXor, xor-block, xor-shifted}
+use lib.Bits.{bitXor, xor-block}
 use lib.Dec.{lit<}
 use lib.ListN.{length, getD, take, length-append}
 use lib.Pow.{pow-add, mod-pow-add}
@@ -16,7 +16,7 @@ use Rattle.blocks.specs.Bytes.{Bytes, Block, xorBytes, zeros}
 use Rattle.blocks.specs.Field.{step, steps}
 use Rattle.blocks.specs.Gf128.{carry, shiftLeft, reduction, timesX, jump, num, lowBytes}
 use Rattle.blocks.proofs.XorBytes.{length-xor}
-use Rattle.blocks.proofs.TimesX.{carry-lt, length-shift, length-reduction, bytes-shift, bytes-reduction, block-jump}
+use Rattle.blocks.proofs.TimesX.{carry-lt, low-sum, length-shift, length-reduction, bytes-shift, bytes-reduction, block-jump}
 
 pub wide : (n : ℕ) → 2 ^ (suc n * 8) ≡ 2 ^ (n * 8) * 256
 wide n = ap (λ (z : ℕ). 2 ^ z) (suc-mul n 8) ∙ pow-add 2 (n * 8) 8
@@ -119,10 +119,6 @@ num-xor a b ha hb = num-xorBytes a b (ha .long ∙ sym (hb .long)) (ha .bytes) (
 
 swap : (a k w : ℕ) → a * k * w ≡ a * w * k
 swap a k w = mul-assoc a k w ∙ ap (λ (z : ℕ). a * z) (mul-comm k w) ∙ sym (mul-assoc a w k)
-
--- a byte's shift, as a sum
-low-sum : (x t : ℕ) → t < 2 → bitXor (x * 2 % 256) t ≡ x % 128 * 2 + t
-low-sum x t h = let e : x * 2 % 256 ≡ x % 128 * 2 = omega arith in ap (λ (z : ℕ). bitXor z t) e ∙ xor-shifted (x % 128) 1 t h
 
 carried : (x t w s n : ℕ) → s + t * w ≡ n * 2 → (x % 128 * 2 + t) * w + s + x / 128 * (w * 256) ≡ (x * w + n) * 2
 carried x t w s n ih =

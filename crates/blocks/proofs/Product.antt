@@ -1,16 +1,19 @@
 -- The ring of blocks: the product of two blocks is linear on both sides, commutes and associates, 1 does nothing, and the product with
--- x^n is the jump by n.
+-- x^d is the jump by d.
 use mathlib.Core.Path.{_≡_, refl, sym, ap, ap₂, _∙_}
 use mathlib.Core.List.{List}
-use Prim.Native.Nat.{ℕ, _^_, _<_}
+use Prim.Native.Nat.{ℕ, zero, suc, _^_, _<_}
 use lib.Bits.{bitXor}
 use lib.Dec.{lit<}
+use lib.IntN.{ℤ, pos, negsuc}
 use Rattle.blocks.specs.Bytes.{Block, xorBytes}
 use Rattle.blocks.specs.Field.{steps, mul}
-use Rattle.blocks.specs.Gf128.{jump, num, product, one, power}
-use Rattle.blocks.proofs.Field.{mul-right, mul-one, mul-comm, mul-assoc, mul-lt, mul-steps, power-mul}
+use Rattle.blocks.specs.Gf128.{timesX, jump, overX, jumpBy, num, product, one, power}
+use Rattle.blocks.proofs.Field.{mul-right, mul-one, mul-comm, mul-assoc, mul-lt, mul-steps}
 use Rattle.blocks.proofs.XorBytes.{block-xor}
 use Rattle.blocks.proofs.TimesX.{block-jump, block-one}
+use Rattle.blocks.proofs.OverX.{block-overX, over-times, times-over}
+use Rattle.blocks.proofs.JumpBy.{block-jumpBy}
 use Rattle.blocks.proofs.Num.{same-block, block-lt, block-lowBytes, num-lowBytes, num-xor, num-jump}
 
 pub poly-lt : 0x87 < 2 ^ 128
@@ -31,10 +34,6 @@ product-is a b r hb hr e = same-block hr (block-product a b) (e ∙ sym (num-pro
 pub num-one : num one ≡ 1
 unfolding num one
 num-one = refl
-
-pub num-power : (n : ℕ) → num (power n) ≡ steps 127 0x87 n 1
-unfolding power
-num-power n = num-jump n one block-one ∙ ap (steps 127 0x87 n) num-one
 
 pub product-comm : (a b : List ℕ) → Block a → Block b → product a b ≡ product b a
 product-comm a b ha hb =
@@ -62,16 +61,29 @@ pub product-one : (a : List ℕ) → Block a → product a one ≡ a
 product-one a ha =
     sym (product-is a one a block-one ha (sym (ap (mul 127 0x87 (num a)) num-one ∙ mul-one 127 0x87 (num a) (block-lt a ha))))
 
--- a jump of a factor is a jump of the product
-pub product-jump : (n : ℕ) (a b : List ℕ) → Block b → product a (jump n b) ≡ jump n (product a b)
+-- ---- a jump of a factor is a jump of the product
+
+product-jump : (n : ℕ) (a b : List ℕ) → Block b → product a (jump n b) ≡ jump n (product a b)
 product-jump n a b hb =
     same-block (block-product a (jump n b)) (block-jump n (product a b) (block-product a b))
     (num-product a (jump n b) (block-jump n b hb) ∙ ap (mul 127 0x87 (num a)) (num-jump n b hb) ∙ mul-steps 127 0x87 n (num a) (num b)
     ∙ sym (num-jump n (product a b) (block-product a b) ∙ ap (steps 127 0x87 n) (num-product a b hb)))
 
--- the product with x^n is the jump by n
-pub product-power : (n : ℕ) (b : List ℕ) → Block b → product (power n) b ≡ jump n b
-product-power n b hb =
-    same-block (block-product (power n) b) (block-jump n b hb)
-    (num-product (power n) b hb ∙ ap (λ (z : ℕ). mul 127 0x87 z (num b)) (num-power n) ∙ power-mul 127 0x87 poly-lt n (num b) (lit< tt) (block-lt b hb)
-    ∙ sym (num-jump n b hb))
+product-overX : (a b : List ℕ) → Block b → product a (overX b) ≡ overX (product a b)
+unfolding jump
+product-overX a b hb =
+    sym (over-times (product a (overX b)) (block-product a (overX b)))
+    ∙ ap overX (sym (product-jump 1 a (overX b) (block-overX b hb)) ∙ ap (product a) (times-over b hb))
+
+pub product-jumpBy : (d : ℤ) (a b : List ℕ) → Block b → product a (jumpBy d b) ≡ jumpBy d (product a b)
+unfolding jumpBy
+product-jumpBy (pos n) a b hb = product-jump n a b hb
+product-jumpBy (negsuc zero) a b hb = product-overX a b hb
+product-jumpBy (negsuc (suc n)) a b hb =
+    product-overX a (jumpBy (negsuc n) b) (block-jumpBy (negsuc n) b hb) ∙ ap overX (product-jumpBy (negsuc n) a b hb)
+
+-- the product with x^d is the jump by d
+pub product-power : (d : ℤ) (b : List ℕ) → Block b → product (power d) b ≡ jumpBy d b
+unfolding power
+product-power d b hb =
+    product-comm (jumpBy d one) b (block-jumpBy d one block-one) hb ∙ product-jumpBy d b one block-one ∙ ap (jumpBy d) (product-one b hb)

@@ -9,7 +9,7 @@ use lib.Bits.{bitXor, bitAnd, bitOr, xor-mod, xor-shr, xor-shifted, or-shifted, 
 use lib.Dec.{lit<}
 use lib.ListN.{length, getD, getD-replicate, List·getD-append, List·getD-eq-default}
 use Rattle.blocks.specs.Bytes.{Bytes, Block, xorBytes, zeros}
-use Rattle.blocks.specs.Gf128.{carry, shiftLeft, reduction, timesX, jump, one, power}
+use Rattle.blocks.specs.Gf128.{carry, shiftLeft, reduction, timesX, jump, one}
 use Rattle.blocks.proofs.Test.{bytes-by}
 use Rattle.blocks.proofs.Xor.{two-pos, bit-xor, xor-swap, xor8}
 use Rattle.blocks.proofs.Linear.{double, scale-bit}
@@ -68,10 +68,6 @@ pub block-one : Block one
 unfolding one
 block-one = record { long = refl; bytes = bytes-by (zeros 15 ++ (1 ∷ [])) tt }
 
-pub block-power : (n : ℕ) → Block (power n)
-unfolding power
-block-power n = block-jump n one block-one
-
 -- ---- through exclusive or
 
 carry-xor : (a b : List ℕ) → length a ≡ length b → carry (xorBytes a b) ≡ bitXor (carry a) (carry b)
@@ -122,12 +118,14 @@ unfolding carry
 carry-at [] h = refl
 carry-at (x ∷ b) h = omega (arith, h 0)
 
+-- a byte's shift, as a sum
+pub low-sum : (x t : ℕ) → t < 2 → bitXor (x * 2 % 256) t ≡ x % 128 * 2 + t
+low-sum x t h = let e : x * 2 % 256 ≡ x % 128 * 2 = omega arith in ap (λ (z : ℕ). bitXor z t) e ∙ xor-shifted (x % 128) 1 t h
+
 pub carry-or : (x t : ℕ) → t < 2 → bitOr (bitAnd x 0x7f * 2 % 256) t ≡ bitXor (x * 2 % 256) t
 carry-or x t h =
     let e : x % 128 * 2 % 256 ≡ x % 128 * 2 = omega arith in
-    let f : x % 128 * 2 ≡ x * 2 % 256 = omega arith in
-    ap (λ (z : ℕ). bitOr (z * 2 % 256) t) (and-mask x 7) ∙ ap (λ (z : ℕ). bitOr z t) e ∙ or-shifted (x % 128) 1 t h
-    ∙ sym (xor-shifted (x % 128) 1 t h) ∙ ap (λ (z : ℕ). bitXor z t) f
+    ap (λ (z : ℕ). bitOr (z * 2 % 256) t) (and-mask x 7) ∙ ap (λ (z : ℕ). bitOr z t) e ∙ or-shifted (x % 128) 1 t h ∙ sym (low-sum x t h)
 
 getD-shift : (b : List ℕ) (i : ℕ) → Bytes b → getD (shiftLeft b) i 0 ≡ bitXor (getD b i 0 * 2 % 256) (getD b (suc i) 0 / 128)
 unfolding shiftLeft

@@ -3,9 +3,10 @@
 ghost use mathlib.Core.Path.{_≡_};
 ghost use Prim.Native.Nat.{_*_, _/_, _<_, _≤_};
 ghost use lib.Bits.{bitXor};
+ghost use lib.IntN.{natAbs};
 ghost use lib.ListN.{take, drop};
 ghost use Rattle.blocks.specs.Field.{step, steps, times};
-ghost use Rattle.blocks.specs.Gf128.{num, timesX, jump as jumpOf, product, power as powerOf};
+ghost use Rattle.blocks.specs.Gf128.{num, timesX, overX, jump as jumpOf, jumpBy, signed, product, power as powerOf};
 ghost use Rattle.blocks.specs.Spread.{spread, spreadBytes};
 
 // A block times x: each byte takes the top bit of the next, and the bit that falls out selects 87.
@@ -18,6 +19,21 @@ pub fn times_x(b: [u8; 16]) -> [u8; 16]
         r[i] = ((b[i] & 0x7f) << 1) | (b[next] >> 7);
     }
     r[15] = (b[15] << 1) ^ ((b[0] >> 7) * 0x87);
+    r
+}
+
+// A block over x. Where its low bit is set the polynomial is added first: 87 to the last byte, and a one above the first. Then each byte
+// takes the low bit of the one before it.
+pub fn over_x(b: [u8; 16]) -> [u8; 16]
+    ensures { λ r. ⌜ r ≡ overX b ⌝ }
+{
+    let low = b[15] % 2;
+    let mut r = [0u8; 16];
+    r[0] = (low << 7) | (b[0] >> 1);
+    for i in 1..15 {
+        r[i] = (b[i - 1] << 7) | (b[i] >> 1);
+    }
+    r[15] = (b[14] << 7) | ((b[15] ^ (low * 0x87)) >> 1);
     r
 }
 
@@ -108,50 +124,82 @@ pub fn square(b: [u8; 16]) -> [u8; 16]
     reduce(h, l)
 }
 
-// ---- powers of x, by repeated squaring
+// ---- powers of x, by repeated squaring; of 1/x where `back` is set
 
-// The square of q, and times x where the bit is set.
-fn next_power(q: [u8; 16], bit: u32) -> [u8; 16]
+// The square of q, and times x, or over x, where the bit is set.
+fn next_power(q: [u8; 16], bit: u32, back: bool) -> [u8; 16]
     requires { ⌜ bit < 2 ⌝ }
-    ensures { λ r. ⌜ r ≡ jumpOf bit (product q q) ⌝ }
+    ensures { λ r. ⌜ r ≡ jumpBy (signed back bit) (product q q) ⌝ }
 {
     let s = square(q);
-    if bit == 0 { s } else { times_x(s) }
+    if bit == 0 {
+        return s;
+    }
+    if back { over_x(s) } else { times_x(s) }
 }
 
-// From x^(n / 2) to x^n. While there is no bit yet, nothing is squared.
-fn take_power(q: [u8; 16], n: u32) -> [u8; 16]
-    requires { ⌜ q ≡ powerOf (n / 2) ⌝ }
-    ensures { λ r. ⌜ r ≡ powerOf n ⌝ }
+// From the power n / 2 to the power n. While there is no bit yet, nothing is squared.
+fn take_power(q: [u8; 16], n: u32, back: bool) -> [u8; 16]
+    requires { ⌜ q ≡ powerOf (signed back (n / 2)) ⌝ }
+    ensures { λ r. ⌜ r ≡ powerOf (signed back n) ⌝ }
 {
     if n == 0 {
         return q;
     }
-    next_power(q, n % 2)
+    next_power(q, n % 2, back)
 }
 
-// x^n, by the bits of n from the top.
-pub fn power(n: u32) -> [u8; 16]
-    ensures { λ r. ⌜ r ≡ powerOf n ⌝ }
+// x^n, or x^-n, by the bits of n from the top.
+pub fn power(n: u32, back: bool) -> [u8; 16]
+    ensures { λ r. ⌜ r ≡ powerOf (signed back n) ⌝ }
 {
     let mut q = [0u8; 16];
     q[15] = 1;
     let mut left: u32 = 32;
     while left > 0 {
         left -= 1;
-        let next = take_power(q, n >> left);
+        let next = take_power(q, n >> left, back);
         q = next;
     }
     q
 }
 
-// The block b, multiplied by x n times: one product, with x^n. A run from block 0 needs none.
-pub fn jump(b: [u8; 16], n: u32) -> [u8; 16]
-    ensures { λ r. ⌜ r ≡ jumpOf n b ⌝ }
+// ---- jumps: one product, with a power of x
+
+// The block b jumped by n blocks, forward or back. A run from block 0 needs no product.
+fn jump_towards(b: [u8; 16], n: u32, back: bool) -> [u8; 16]
+    ensures { λ r. ⌜ r ≡ jumpBy (signed back n) b ⌝ }
 {
     if n == 0 {
         return b;
     }
-    let p = power(n);
+    let p = power(n, back);
     multiply(p, b)
+}
+
+// The block b, multiplied by x n times.
+pub fn jump(b: [u8; 16], n: u32) -> [u8; 16]
+    ensures { λ r. ⌜ r ≡ jumpOf n b ⌝ }
+{
+    jump_towards(b, n, false)
+}
+
+// The number of blocks of a distance, either way. The most negative one has no counterpart of 32 bits, so it is turned round at 64.
+fn magnitude(distance: i32) -> u32
+    ensures { λ n. ⌜ n ≡ natAbs distance ⌝ }
+{
+    let wide = distance as i64;
+    if wide < 0 {
+        return (0 - wide) as u32;
+    }
+    wide as u32
+}
+
+// The block b jumped by a signed distance.
+pub fn jump_by(b: [u8; 16], distance: i32) -> [u8; 16]
+    ensures { λ r. ⌜ r ≡ jumpBy distance b ⌝ }
+{
+    let n = magnitude(distance);
+    let back = distance < 0;
+    jump_towards(b, n, back)
 }

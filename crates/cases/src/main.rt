@@ -16,9 +16,9 @@ fn report_paper() {
     report(b"paper, second vector", paper::second_vector(), 4);
     report(b"paper, both blocks in one run", paper::both_blocks(), 5);
     report(b"paper's rule, 4000 blocks", paper::long_chain(), 7);
-    report(b"paper, masks", paper::masks(), 3);
+    report(b"paper, masks", paper::masks(), 6);
     report(b"paper, sums and encryptions", sums::printed(), 7);
-    report(b"jumps of 1", paper::jumps_of_one(), 3);
+    report(b"jumps of 1", paper::jumps_of_one(), 6);
     report(b"start mask of zero", paper::zero_start_mask(), 5);
 }
 

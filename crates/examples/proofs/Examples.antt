@@ -5,19 +5,19 @@ use native.Mathlib.Omega.{arith}
 use borrow.Author.Tests.{le-ltb, eq-eqb}
 use Rattle.blocks.specs.Bytes.{xorBytes, firstBlocks}
 use Rattle.blocks.specs.Field.{step, times, mul}
-use Rattle.blocks.specs.Gf128.{carry, shiftLeft, reduction, timesX, jump}
+use Rattle.blocks.specs.Gf128.{carry, shiftLeft, reduction, timesX, jump, lowBit, shiftRight, overX, jumpBy}
 use Rattle.fips197.specs.Gf256.{power, inverse}
 use Rattle.fips197.specs.Sbox.{affine, sbox}
 use Rattle.mode.specs.declared.RunRecord.{RunRecord}
 use Rattle.mode.specs.Mode.{zeroBlock, blocksOf, padded}
-use Rattle.mode.specs.Table.{given, decide, limit, not16, beyond, anyBeyond, apart}
+use Rattle.mode.specs.Table.{given, decide, limit, not16, beyond, anyBeyond, tooFar, apart}
 use Rattle.mode.specs.Calls.{blocksOfRun, outcomeBy, joined, joinTwo, jumpMask}
 use Rattle.mode.proofs.Blocks.{count-last}
 use Rattle.mode.proofs.Records.{joined-empty}
 use Rattle.examples.specs.Examples.{result, AllAgree, EmptyNeighbour, PaddedCount}
 
 pub all-agree : AllAgree
-unfolding result jumpMask outcomeBy decide not16 jump timesX shiftLeft carry reduction xorBytes sbox affine inverse power mul times step blocksOfRun blocksOf firstBlocks padded joinTwo anyBeyond beyond apart joined
+unfolding result jumpMask outcomeBy decide not16 tooFar jumpBy overX shiftRight lowBit jump timesX shiftLeft carry reduction xorBytes sbox affine inverse power mul times step blocksOfRun blocksOf firstBlocks padded joinTwo anyBeyond beyond apart joined
 all-agree = refl
 
 -- neighbours within the limit are joined

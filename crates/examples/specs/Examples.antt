@@ -1,7 +1,9 @@
--- Document 01's bench cards (a) to (j), as rows of one table: what is asked of the formulas, and what they should give.
+-- Document 01's bench cards (a) to (j), and the jump back of ticket P1, as rows of one table: what is asked of the formulas, and what they
+-- should give.
 use mathlib.Core.Path.{_≡_}
 use mathlib.Core.List.{List, [], _∷_, _++_, map}
 use Prim.Native.Nat.{ℕ, _+_, _/_, _≤_}
+use lib.IntN.{ℤ, pos, negsuc}
 use lib.ListN.{length}
 use Rattle.blocks.specs.Bytes.{zeros}
 use Rattle.blocks.specs.Gf128.{timesX}
@@ -11,10 +13,10 @@ use Rattle.mode.specs.Mode.{zeroBlock}
 use Rattle.mode.specs.Table.{Answer, given, limit}
 use Rattle.mode.specs.Calls.{Outcome, last, blocksOfRun, joinTwo, jumpMask}
 
--- What is asked: a mask jumped by a number of blocks; a block times the variable; a byte through the S-box; a message's blocks with its
+-- What is asked: a mask jumped by a signed number of blocks; a block times the variable; a byte through the S-box; a message's blocks with its
 -- padding; two records joined.
 pub data Question : Type 0 where
-  jumps : List ℕ → ℕ → Question
+  jumps : List ℕ → ℤ → Question
   multiplies : List ℕ → Question
   substitutes : ℕ → Question
   pads : List ℕ → Question
@@ -68,9 +70,11 @@ filled bytes = outcome (record { answer = given bytes; reported = 16; output = b
 abbrev pub table : List (Question × Result)
 table =
     -- (a), (b), (c)
-    (jumps one 0, filled one)
-    ∷ (jumps one 127, filled (0x80 ∷ zeros 15))
-    ∷ (jumps one 128, filled (zeros 15 ++ (0x87 ∷ [])))
+    (jumps one (pos 0), filled one)
+    ∷ (jumps one (pos 127), filled (0x80 ∷ zeros 15))
+    ∷ (jumps one (pos 128), filled (zeros 15 ++ (0x87 ∷ [])))
+    -- P1: by -1
+    ∷ (jumps one (negsuc 0), filled (0x80 ∷ zeros 14 ++ (0x43 ∷ [])))
     -- (d)
     ∷ (multiplies r1, block (0xfb ∷ 0xda ∷ 0x53 ∷ 0x24 ∷ 0x12 ∷ 0x27 ∷ 0x47 ∷ 0xb5 ∷ 0x19 ∷ 0x3d ∷ 0x94 ∷ 0x5e ∷ 0x1f ∷ 0xa8 ∷ 0x69 ∷ 0xd3 ∷ []))
     -- (e), (f)

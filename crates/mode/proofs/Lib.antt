@@ -1,5 +1,5 @@
 -- Aes: AES-128 is a lawful cipher, and FIPS 197's. Rows to Decisions: the table decides a call. Laws to Records: the formulas. Demand2, Demand3,
--- NoDifference: the arguments. Demands: what is proved, a line each. Toy to Pinned: the statements are neither empty nor loose, and may not
+-- NoDifference, SignedJump: the arguments. Demands: what is proved, a line each. Toy to Pinned: the statements are neither empty nor loose, and may not
 -- shrink.
 pub mod Aes
 pub mod Rows
@@ -17,6 +17,7 @@ pub mod Records
 pub mod Demand2
 pub mod Demand3
 pub mod NoDifference
+pub mod SignedJump
 pub mod Demands
 pub mod Toy
 pub mod Witness

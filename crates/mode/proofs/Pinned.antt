@@ -1,19 +1,21 @@
 -- What the demands may not lose: whatever sealing and opening take may be cut, at every block; every call that document 01 allows is allowed, at
--- every place; the table's order is document 01's, and no other order passes for it.
-use mathlib.Core.Path.{_≡_, refl, sym, _∙_}
+-- every place; jumps go both ways up to the limit; the table's order is document 01's, and no other order passes for it.
+use mathlib.Core.Path.{_≡_, refl, sym, subst, _∙_}
 use mathlib.Core.Logic.{inl, inr}
 use mathlib.Core.List.{List, [], _∷_}
 use mathlib.Core.Bool.{Bool, true, false, cond}
-use Prim.Native.Nat.{ℕ, suc, _%_, _<_}
+use Prim.Native.Nat.{ℕ, suc, _+_, _%_, _≤_, _<_}
+use lib.IntN.{ℤ, pos, negsuc, negℤ, negℤ-negℤ}
 use lib.ListN.{length}
 use native.Mathlib.Omega.{arith}
 use borrow.Author.Tests.{ltb-false}
-use Rattle.blocks.specs.Bytes.{concat}
+use Rattle.blocks.specs.Bytes.{Block, concat}
+use Rattle.blocks.proofs.Sign.{abs-neg}
 use Rattle.mode.specs.Mode.{Cipher, cipherPart, sealedRecord}
-use Rattle.mode.specs.Table.{given, decide, tableOrder, inOrder, tooLong, notSealed, apart, longestMessage}
+use Rattle.mode.specs.Table.{given, decide, tableOrder, inOrder, tooLong, notSealed, tooFar, apart, limit, longestMessage}
 use Rattle.mode.specs.Calls.{Kind, middle, last, seal, sealRows}
 use Rattle.mode.specs.Parallel.{sealing, checking, lastKind, textOf, Fits, Cut, WellFormed, Segment, isRecorded, segment, runAt, joinPair, joinMany, consecutive, AllRecorded, recordsAt, Allowed}
-use Rattle.mode.specs.Demands.{InTable}
+use Rattle.mode.specs.Demands.{InTable, JumpsTo, SignedJump}
 use Rattle.mode.proofs.Passed.{has-16}
 use Rattle.mode.proofs.Decisions.{given-rows, outcome-answer}
 use Rattle.mode.proofs.Demand2.{sealed-lengths}
@@ -75,6 +77,29 @@ module _ (xs : List Segment) where
   pub list-apart-allowed : (is : List ℕ) → AllRecorded xs is → apart (recordsAt xs is) ≡ true → Allowed xs (joinMany is)
   unfolding Allowed
   list-apart-allowed is h e = (h, inr (inr e))
+
+-- ---- the signed jump
+
+-- there and back, whichever is first, at every number of blocks up to the limit
+pub forward-then-back : (c : Cipher) → SignedJump c → (mask : List ℕ) (n : ℕ) → Block mask → n ≤ limit
+    → (m : List ℕ) × (JumpsTo mask (pos n) m × JumpsTo m (negℤ (pos n)) mask)
+forward-then-back c s mask n h r = s .undone mask (pos n) h r
+
+pub back-then-forward : (c : Cipher) → SignedJump c → (mask : List ℕ) (n : ℕ) → Block mask → n ≤ limit
+    → (m : List ℕ) × (JumpsTo mask (negℤ (pos n)) m × JumpsTo m (pos n) mask)
+back-then-forward c s mask n h r =
+    subst (λ (d : ℤ). (m : List ℕ) × (JumpsTo mask (negℤ (pos n)) m × JumpsTo m d mask)) (negℤ-negℤ (pos n))
+    (s .undone mask (negℤ (pos n)) h (rw (abs-neg (pos n)) r))
+
+-- two ways back, one after the other, and back and forward, are added
+pub back-twice : (c : Cipher) → SignedJump c → (mask : List ℕ) (n k : ℕ) → Block mask → suc (suc (n + k)) ≤ limit
+    → (m : List ℕ) × (l : List ℕ) × (JumpsTo mask (negsuc n) m × JumpsTo m (negsuc k) l × JumpsTo mask (negsuc (suc (n + k))) l)
+back-twice c s mask n k h r = s .adds mask (negsuc n) (negsuc k) h (omega arith) (omega arith) r
+
+-- the last distances in range, and the first beyond
+pub range : (tooFar (pos limit) ≡ false) × (tooFar (negℤ (pos limit)) ≡ false) × (tooFar (pos (suc limit)) ≡ true) × (tooFar (negsuc limit) ≡ true)
+unfolding tooFar
+range = (refl, refl, refl, refl)
 
 -- ---- the table's order
 

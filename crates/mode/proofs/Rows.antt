@@ -1,15 +1,17 @@
 -- Rows of the table, one after another: how a call comes to its refusal or to its answer.
-use mathlib.Core.Path.{_≡_, refl, sym, ap}
-use mathlib.Core.Bool.{Bool, true, false, cond, not, _&&_}
+use mathlib.Core.Path.{_≡_, refl, sym, ap, _∙_}
+use mathlib.Core.Bool.{Bool, true, false, cond, not, _&&_, _||_, or-false}
 use mathlib.Core.List.{List, [], _∷_, _++_}
 use Prim.Native.Nat.{ℕ, zero, suc, _+_, _-_, _%_, _≤_, _<_}
 use native.Mathlib.Omega.{arith}
-use lib.Dec.{T, eqb}
+use lib.Dec.{T, eqb, ltb, leb·suc-suc}
+use lib.IntN.{ℤ, pos, negsuc, negℤ}
 use lib.ListN.{length}
+use lib.Signed.{ltZ}
 use borrow.Author.Tests.{eq-eqb, ne-eqb, le-ltb, lt-ltb}
 use Rattle.blocks.specs.Bytes.{zeros}
 use Rattle.mode.specs.Mode.{RunRecord}
-use Rattle.mode.specs.Table.{Answer, refused, given, decide, firstRow, limit, longestMessage, longestSealed, not16, unaligned, tooLong, notSealed, beyond, notWhole}
+use Rattle.mode.specs.Table.{Answer, refused, given, decide, firstRow, limit, longestMessage, longestSealed, not16, unaligned, tooLong, notSealed, beyond, tooFar, notWhole}
 use Rattle.mode.specs.Calls.{outcomeBy}
 
 -- ---- the first row
@@ -90,6 +92,15 @@ misaligned a h = ap not (ne-eqb (length a % 16) 0 h)
 pub is-beyond : (first count : ℕ) → limit < first + count → beyond first count ≡ true
 unfolding beyond
 is-beyond first count h = lt-ltb limit (first + count) h
+
+-- a distance, tested at both ends of the range
+abbrev pub outside : ℤ → Bool
+outside d = ltZ d (negℤ (pos limit)) || ltZ (pos limit) d
+
+pub is-outside : (d : ℤ) → outside d ≡ tooFar d
+unfolding tooFar
+is-outside (pos n) = refl
+is-outside (negsuc n) = or-false (ltb (limit - 1) n) ∙ sym (leb·suc-suc limit n)
 
 pub too-long : (m : List ℕ) → longestMessage < length m → tooLong m ≡ true
 unfolding tooLong

@@ -4,11 +4,11 @@ use mathlib.Core.List.{List, [], _∷_, _++_}
 use mathlib.Core.Bool.{Bool, true, false, cond, not}
 use Prim.Native.Nat.{ℕ, zero, suc, _+_, _*_, _-_}
 use lib.ListN.{length, take}
-use lib.Dec.{ltb}
+use lib.IntN.{ℤ}
 use Rattle.blocks.specs.Bytes.{xorBytes, same, zeros}
-use Rattle.blocks.specs.Gf128.{timesX, jump}
+use Rattle.blocks.specs.Gf128.{timesX, jump, jumpBy}
 use Rattle.mode.specs.Mode.{Cipher, Source, plaintext, ciphertext, Pass, RunRecord, blocksOf, padded, zeroBlock, startMask, middletext, pass, tagFrom, unbrokenTag, sealedRecord, ivPart, cipherPart, tagPart}
-use Rattle.mode.specs.Table.{Answer, refused, given, decide, limit, not16, unaligned, tooLong, notSealed, beyond, anyBeyond, apart, none, notWhole, tooShort}
+use Rattle.mode.specs.Table.{Answer, refused, given, decide, not16, unaligned, tooLong, notSealed, beyond, anyBeyond, tooFar, apart, none, notWhole, tooShort}
 -- the code's answers, as it declares them
 pub use Rattle.mode.specs.declared.Written.{Written}
 pub use Rattle.mode.specs.declared.RunAnswer.{RunAnswer}
@@ -204,12 +204,12 @@ module _ (c : Cipher) where
 
 -- ---- masks
 
-abbrev pub jumpRows : List ℕ → ℕ → ℕ → List (ℕ × Bool)
-jumpRows mask distance room = (3, not16 mask) ∷ (4, ltb limit distance) ∷ (5, tooShort room 16) ∷ []
+abbrev pub jumpRows : List ℕ → ℤ → ℕ → List (ℕ × Bool)
+jumpRows mask distance room = (3, not16 mask) ∷ (4, tooFar distance) ∷ (5, tooShort room 16) ∷ []
 
--- JUMP a mask
-unfoldable pub jumpMask : List ℕ → ℕ → ℕ → Outcome (List ℕ)
-jumpMask mask distance room = outcomeBy (decide (jumpRows mask distance room) (jump distance mask)) (jump distance mask) room
+-- JUMP a mask by a signed distance
+unfoldable pub jumpMask : List ℕ → ℤ → ℕ → Outcome (List ℕ)
+jumpMask mask distance room = outcomeBy (decide (jumpRows mask distance room) (jumpBy distance mask)) (jumpBy distance mask) room
 
 -- ---- the calls of which demand 3 speaks, any way they may answer
 

@@ -9,8 +9,9 @@ use mathlib.Core.List.{List, [], _∷_, _++_}
 use mathlib.Core.Bool.{Bool, true, false}
 use Prim.Native.Nat.{ℕ, suc, _+_, _*_, _-_, _/_, _≤_, _<_}
 use lib.ListN.{length, take, drop}
+use lib.IntN.{ℤ, pos, negsuc, negℤ, natAbs, _+ℤ_}
 use Rattle.blocks.specs.Bytes.{Bytes, Block, zeros, xorBytes}
-use Rattle.blocks.specs.Gf128.{jump}
+use Rattle.blocks.specs.Gf128.{jump, overX, jumpBy}
 use Rattle.fips197.specs.KeyExpansion.{roundKeys}
 use Rattle.fips197.specs.Cipher.{cipher, invCipher, afterRound}
 use Rattle.mode.specs.Mode.{Cipher, Source, plaintext, ciphertext, Pass, RunRecord, blocksOf, padded, zeroBlock, startMask, encrypt, pass, tagFrom, unbroken, unbrokenTag, recordOf, ivPart, cipherPart, tagPart, sealedRecord, UnbrokenCheck}
@@ -63,7 +64,7 @@ pub record Demand1 (c : Cipher) : Type 0 where
   pub of-join-list : (rs : List RunRecord) → Answered (joinList rs)
   pub of-close : (key iv : List ℕ) (r : RunRecord) → Answered (close c key iv r)
   pub of-test : (key iv : List ℕ) (r : RunRecord) (tag : List ℕ) → Answered (test c key iv r tag)
-  pub of-jump : (mask : List ℕ) (distance room : ℕ) → AnsweredInto (jumpMask mask distance room) room
+  pub of-jump : (mask : List ℕ) (distance : ℤ) (room : ℕ) → AnsweredInto (jumpMask mask distance room) room
 
 -- ---- DEMAND 2 (a). Sealing gives the record of the published mode, 16 j + 32 bytes for j blocks, and zeros beyond it; a message within the
 -- limit, with a key and an IV of 16 bytes and with room, is sealed.
@@ -108,10 +109,16 @@ pub record DecidedInto {A : Type 0} (rows : List (ℕ × Bool)) (o : Outcome A) 
   pub one-holds : (n : ℕ) → Decides rows n → Refuses o n room
 
 module _ (c : Cipher) where
-  -- Over the formulas of Mode, not by the helpers that the outcome functions are written with: step 2 over a run that starts at block
-  -- `first`, whose mask is the start mask jumped by `first`.
+  -- Over the formulas of Mode, not by the helpers that the outcome functions are written with: a run's first mask, and closing's mask
+  abbrev pub firstMask : List ℕ → List ℕ → ℕ → List ℕ
+  firstMask key iv first = jump first (startMask c key iv)
+
+  abbrev pub closingMask : List ℕ → List ℕ → RunRecord → List ℕ
+  closingMask key iv r = jump (r .count) (startMask c key iv)
+
+  -- step 2 over a run that starts at block `first`
   abbrev pub stepTwo : Source → List ℕ → List ℕ → ℕ → List (List ℕ) → Pass
-  stepTwo s key iv first blocks = pass c s key blocks (jump first (startMask c key iv)) zeroBlock
+  stepTwo s key iv first blocks = pass c s key blocks (firstMask key iv first) zeroBlock
 
   abbrev pub stepTwoRecord : Source → List ℕ → List ℕ → ℕ → List (List ℕ) → RunRecord
   stepTwoRecord s key iv first blocks =
@@ -132,9 +139,10 @@ module _ (c : Cipher) where
         (record { first = l .first; count = l .count + r .count; preauthenticator = xorBytes (jump (r .count) (l .preauthenticator)) (r .preauthenticator) })
     pub of-join-list : (rs : List RunRecord) → Decided (joinListRows rs) (joinList rs) (joinedAll rs)
     pub of-close : (key iv : List ℕ) (r : RunRecord)
-        → Decided (closeRows key iv r) (close c key iv r) (tagFrom c key (r .preauthenticator) (jump (r .count) (startMask c key iv)))
+        → Decided (closeRows key iv r) (close c key iv r) (tagFrom c key (r .preauthenticator) (closingMask key iv r))
     pub of-test : (key iv : List ℕ) (r : RunRecord) (tag : List ℕ) → Decided (testRows c key iv r tag) (test c key iv r tag) tt
-    pub of-jump : (mask : List ℕ) (distance room : ℕ) → DecidedInto (jumpRows mask distance room) (jumpMask mask distance room) (jump distance mask) (jump distance mask) room
+    pub of-jump : (mask : List ℕ) (distance : ℤ) (room : ℕ)
+        → DecidedInto (jumpRows mask distance room) (jumpMask mask distance room) (jumpBy distance mask) (jumpBy distance mask) room
 
 -- ---- DEMAND 2 (d). The unbroken check passes a record exactly where opening, lent as much output as there is ciphertext, gives a message or 7.
 
@@ -224,6 +232,34 @@ abbrev pub OpensSealed : Cipher → Type 0
 OpensSealed c =
     (key iv message r : List ℕ) (room lent : ℕ) → Block key → Block iv → Bytes message → (seal c key iv message room) .answer ≡ given r
     → length r - 32 ≤ lent → Gives (openSealed c key r lent) message message lent
+
+-- ---- beside demand 2: THE SIGNED JUMP (ticket P1), of the outcome that the call's contract cites
+
+-- -4,000 to 4,000
+abbrev pub InRange : ℤ → Type 0
+InRange distance = natAbs distance ≤ limit
+
+-- the mask, jumped by the distance, is m, for whoever lends 16 bytes or more
+abbrev pub JumpsTo : List ℕ → ℤ → List ℕ → Type 0
+JumpsTo mask distance m = (room : ℕ) → 16 ≤ room → Gives (jumpMask mask distance room) m m room
+
+pub record SignedJump (c : Cipher) : Type 0 where
+  -- by n blocks it is document 01's jump, n times the variable; by -1 it divides by the variable
+  pub forward : (mask : List ℕ) (n : ℕ) → length mask ≡ 16 → n ≤ limit → JumpsTo mask (pos n) (jump n mask)
+  pub one-back : (mask : List ℕ) → length mask ≡ 16 → JumpsTo mask (negsuc 0) (overX mask)
+  -- forward then back by the same amount, and back then forward, is the identity
+  pub undone : (mask : List ℕ) (d : ℤ) → Block mask → InRange d → (m : List ℕ) × (JumpsTo mask d m × JumpsTo m (negℤ d) mask)
+  -- distances in range add where their sum is in range too
+  pub adds : (mask : List ℕ) (d e : ℤ) → Block mask → InRange d → InRange e → InRange (d +ℤ e)
+      → (m : List ℕ) × (n : List ℕ) × (JumpsTo mask d m × JumpsTo m e n × JumpsTo mask (d +ℤ e) n)
+  -- a run's first mask jumped back by its first block, and closing's mask jumped back by the count, are the start mask; and so is the mask
+  -- that steps 1 and 2 give after any blocks, nothing cut, jumped back by their number
+  pub from-run : (key iv : List ℕ) (first : ℕ) → Block key → Block iv → first ≤ limit
+      → JumpsTo (firstMask c key iv first) (negℤ (pos first)) (startMask c key iv)
+  pub from-closing : (key iv : List ℕ) (r : RunRecord) → Block key → Block iv → r .count ≤ limit
+      → JumpsTo (closingMask c key iv r) (negℤ (pos (r .count))) (startMask c key iv)
+  pub from-unbroken : (s : Source) (key iv : List ℕ) (before : List (List ℕ)) → Block key → Block iv → length before ≤ limit
+      → JumpsTo ((unbroken c s key iv before) .mask) (negℤ (pos (length before))) (startMask c key iv)
 
 -- ---- beside demand 3
 

@@ -5,6 +5,7 @@ use mathlib.Core.List.{List, [], _∷_, _++_}
 use mathlib.Core.Bool.{Bool, true, false, cond, not, _||_}
 use Prim.Native.Nat.{ℕ, _+_, _*_, _-_, _%_}
 use lib.ListN.{length}
+use lib.IntN.{ℤ, natAbs}
 use lib.Dec.{eqb, ltb}
 use Rattle.mode.specs.Mode.{RunRecord}
 
@@ -82,6 +83,10 @@ beyond first count = ltb limit (first + count)
 unfoldable pub anyBeyond : List RunRecord → Bool
 anyBeyond [] = false
 anyBeyond (r ∷ rs) = beyond (r .first) (r .count) || anyBeyond rs
+
+-- 4: a jump of more blocks than the limit, either way
+unfoldable pub tooFar : ℤ → Bool
+tooFar distance = ltb limit (natAbs distance)
 
 -- 8: two records in turn where the left's first plus count is not the right's first
 unfoldable pub apart : List RunRecord → Bool

@@ -5,7 +5,7 @@ use case_tools::bytes::answered;
 use case_tools::bytes::one_if;
 use case_tools::random::noise;
 
-fn answers(mask: &[u8], distance: u32, out: &mut [u8], refusal: u8, answer: &[u8]) -> usize
+fn answers(mask: &[u8], distance: i32, out: &mut [u8], refusal: u8, answer: &[u8]) -> usize
     ensures { λ r. ⌜ r ≤ 1 ⌝ }
 {
     noise(out);
@@ -13,7 +13,7 @@ fn answers(mask: &[u8], distance: u32, out: &mut [u8], refusal: u8, answer: &[u8
     one_if(answered(w, refusal, answer, out))
 }
 
-pub fn refused(mask: usize, distance: u32, room: usize, refusal: u8) -> usize
+pub fn refused(mask: usize, distance: i32, room: usize, refusal: u8) -> usize
     requires { ⌜ mask ≤ 64 ⌝ }
     requires { ⌜ room ≤ 64 ⌝ }
     ensures { λ r. ⌜ r ≤ 1 ⌝ }
@@ -23,7 +23,7 @@ pub fn refused(mask: usize, distance: u32, room: usize, refusal: u8) -> usize
     answers(&bytes[0..mask], distance, &mut out[0..room], refusal, b"")
 }
 
-pub fn jumped(distance: u32, room: usize) -> usize
+pub fn jumped(distance: i32, room: usize) -> usize
     requires { ⌜ room ≤ 64 ⌝ }
     ensures { λ r. ⌜ r ≤ 1 ⌝ }
 {

@@ -32,7 +32,7 @@ fn report_limits() {
     report(b"refusal 4, checked runs", table::limit_of_checks(), 8);
     report(b"refusal 4, join", table::limit_of_joins(), 10);
     report(b"refusal 4, close and test", table::limit_of_closing(), 10);
-    report(b"refusal 4, jump", table::limit_of_jumps(), 4);
+    report(b"refusal 4, jump", table::limit_of_jumps(), 7);
 }
 
 fn report_records() {
@@ -46,7 +46,7 @@ fn report_room() {
     report(b"refusal 5, seal", table::room_for_records(), 10);
     report(b"refusal 5, open", table::room_for_messages(), 8);
     report(b"refusal 5, runs", table::room_for_runs(), 9);
-    report(b"refusal 5, jump", table::room_for_masks(), 4);
+    report(b"refusal 5, jump", table::room_for_masks(), 6);
 }
 
 fn report_content() {
@@ -61,7 +61,7 @@ fn report_several() {
     report(b"several faults, join", table::several_in_joins(), 4);
     report(b"several faults, close", table::several_in_closing(), 5);
     report(b"several faults, test", table::several_in_tests(), 7);
-    report(b"several faults, jump", table::several_in_jumps(), 3);
+    report(b"several faults, jump", table::several_in_jumps(), 5);
 }
 
 // ---- padding

@@ -2,11 +2,13 @@
 use case_tools::hex::block;
 
 // Sixteen bytes 05, jumped.
-pub fn mask(distance: u32) -> [u8; 16] {
+pub fn mask(distance: i32) -> [u8; 16] {
     match distance {
         0 => block(b"05050505050505050505050505050505"),
         7 => block(b"8282828282828282828282828282838E"),
         4000 => block(b"6C0216CAE654690D72B02BAE9C9C9DE8"),
+        -7 => block(b"6E0A0A0A0A0A0A0A0A0A0A0A0A0A0A3C"),
+        -4000 => block(b"D7A8F7709518E653E255895B208C8E05"),
         _ => [0u8; 16],
     }
 }

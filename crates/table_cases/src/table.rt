@@ -164,7 +164,10 @@ pub fn limit_of_jumps() -> usize {
     jump::jumped(0, 64)
         + jump::jumped(4000, 64)
         + jump::refused(16, 4001, 64, 4)
-        + jump::refused(16, 0xFFFFFFFF, 64, 4)
+        + jump::refused(16, 0x7FFFFFFF, 64, 4)
+        + jump::jumped(-4000, 64)
+        + jump::refused(16, -4001, 64, 4)
+        + jump::refused(16, -0x7FFFFFFF - 1, 64, 4)
 }
 
 // ---- row 8, records that do not adjoin
@@ -242,6 +245,8 @@ pub fn room_for_masks() -> usize {
         + jump::jumped(7, 16)
         + jump::jumped(7, 17)
         + jump::refused(16, 7, 0, 5)
+        + jump::refused(16, -7, 15, 5)
+        + jump::jumped(-7, 16)
 }
 
 // ---- row 6, the tag
@@ -338,5 +343,9 @@ pub fn several_in_tests() -> usize {
 }
 
 pub fn several_in_jumps() -> usize {
-    jump::refused(15, 4001, 0, 3) + jump::refused(17, 7, 15, 3) + jump::refused(16, 4001, 15, 4)
+    jump::refused(15, 4001, 0, 3)
+        + jump::refused(17, 7, 15, 3)
+        + jump::refused(16, 4001, 15, 4)
+        + jump::refused(15, -4001, 0, 3)
+        + jump::refused(16, -4001, 15, 4)
 }

@@ -1,25 +1,26 @@
--- The power by the bits passed: with `left` bits to come, q is x^(n / 2^left).
+-- The power by the bits passed: with `left` bits to come, q is the power n / 2^left, of x or of 1/x.
 use borrow.Author.Needs.{needs}
 use mathlib.Core.Path.{_≡_, refl, sym, ap, _∙_}
 use Prim.Native.Nat.{ℕ, _≤_, _<_, _/_, _^_}
 use native.Mathlib.Omega.{arith}
-use Rattle.blocks.specs.Gf128.{jump, one, power as powerOf}
+use Rattle.blocks.specs.Gf128.{jump, jumpBy, signed, one, power as powerOf}
 use Rattle.blocks.proofs.Jump.{one-bit-less}
+use Rattle.blocks.proofs.JumpBy.{signed-none}
 use Rattle.blocks.proofs.gf128.power.Statement.{statement}
 use Rattle.blocks.proofs.gf128.power.Tie as tie
 
 abbrev Inv-loop : tie.InvT-loop
-Inv-loop n q₀ left₀ q left = (left ≤ 32) × (q ≡ powerOf (n / 2 ^ left))
+Inv-loop n back q₀ left₀ q left = (left ≤ 32) × (q ≡ powerOf (signed back (n / 2 ^ left)))
 
 abbrev μ-loop : tie.MeasureT-loop
-μ-loop n q₀ left₀ q left = left
+μ-loop n back q₀ left₀ q left = left
 
 array-write-q : tie.Need-array-write-q Inv-loop μ-loop
 array-write-q c = search needs
 
 loop-holds : tie.Need-loop-holds Inv-loop μ-loop
-unfolding powerOf jump one
-loop-holds c = let e : 0 ≡ c .args .n / 4294967296 = omega arith in (omega arith, ap powerOf e)
+unfolding powerOf jumpBy jump one
+loop-holds c = let e : 0 ≡ c .args .n / 4294967296 = omega arith in (omega arith, ap powerOf (sym (signed-none (c .args .back)) ∙ ap (signed (c .args .back)) e))
 
 sub-left : tie.Need-sub-left Inv-loop μ-loop
 sub-left c = omega arith
@@ -31,7 +32,7 @@ take-power-requires : tie.Need-take-power-requires Inv-loop μ-loop
 take-power-requires c κs =
     let l = c .before .loop in
     let h : 0 < l .left = omega arith in
-    l .inv .1 ∙ ap powerOf (sym (one-bit-less (c .before .before .args .n) (l .left) h))
+    l .inv .1 ∙ ap (λ (k : ℕ). powerOf (signed (c .before .before .args .back) k)) (sym (one-bit-less (c .before .before .args .n) (l .left) h))
 
 loop-less : tie.Need-loop-less Inv-loop μ-loop
 loop-less c = omega arith
@@ -43,9 +44,10 @@ returns : tie.Need-returns Inv-loop μ-loop
 returns c =
     let l = c .before .loop in
     let n = c .before .before .args .n in
+    let back = c .before .before .args .back in
     let e : l .left ≡ 0 = omega arith in
     let d : n / 1 ≡ n = omega arith in
-    l .inv .1 ∙ ap (λ (k : ℕ). powerOf (n / 2 ^ k)) e ∙ ap powerOf d
+    l .inv .1 ∙ ap (λ (k : ℕ). powerOf (signed back (n / 2 ^ k))) e ∙ ap (λ (k : ℕ). powerOf (signed back k)) d
 
 pub power-spec : {M : Type 1} → statement M
 power-spec =

@@ -5,10 +5,10 @@ use Rattle.cases.proofs.paper.jumped_far.Statement.{statement}
 use Rattle.cases.proofs.paper.jumped_far.Tie as tie
 
 abbrev Inv-loop : tie.InvT-loop
-Inv-loop m₀ left₀ m left = left ≤ 249
+Inv-loop distance m₀ left₀ m left = left ≤ 249
 
 abbrev μ-loop : tie.MeasureT-loop
-μ-loop m₀ left₀ m left = left
+μ-loop distance m₀ left₀ m left = left
 
 loop-holds : tie.Need-loop-holds Inv-loop μ-loop
 loop-holds c = search needs
