@@ -1,7 +1,7 @@
 -- The ring of polynomials over GF(2) modulo x^(k + 1) + p: the product is linear on both sides, commutes and associates, 1 does
 -- nothing, and the product with x^n is n steps.
 use mathlib.Core.Path.{_≡_, refl, sym, ap, ap₂, _∙_}
-use Prim.Native.Nat.{ℕ, zero, suc, _+_, _*_, _/_, _%_, _^_, _<_, suc-le-suc, zero-le}
+use Prim.Native.Nat.{ℕ, zero, suc, _+_, _*_, _/_, _%_, _^_, _<_, suc-le-suc}
 use native.Mathlib.Nat.{zero-add, suc-add, add-comm, zero-mul, one-mul, mod-lt, mod-eq-of-lt, div-eq-of-lt, pow-suc, not-suc-le-zero, le-of-suc-le-suc, le-trans, le-suc, mul-div-cancel, mul-mod-left}
 use native.Mathlib.Omega.{arith}
 use lib.Bits.{bitXor, xor-zero-r, xor-lt, xor-mod, xor-shr}

@@ -1,5 +1,6 @@
 -- The laws that callers cite. Numbers: Xor, Linear, Field, Square. Lists: XorBytes, Same, Tab, Chunks, Array, Zeros. Blocks as polynomials: TimesX,
--- OverX, JumpBy, Num, Product, Horner, Spread, Jump. Test: a rule of many numbers by one computed test.
+-- OverX, JumpBy, Num, Product, Horner, Spread, Jump. Sign: a signed number as the machine reads it. Test: a rule of many
+-- numbers by one computed test.
 pub mod Test
 pub mod Xor
 pub mod Linear

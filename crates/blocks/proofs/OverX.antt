@@ -11,7 +11,7 @@ use Rattle.blocks.specs.Bytes.{Bytes, Block, xorBytes, zeros}
 use Rattle.blocks.specs.Gf128.{carry, shiftLeft, reduction, timesX, lowBit, shiftRight, overX}
 use Rattle.blocks.proofs.Xor.{two-pos, xor8}
 use Rattle.blocks.proofs.XorBytes.{length-xor, block-xor, getD-xor, xorBytes-cancel}
-use Rattle.blocks.proofs.TimesX.{carry-lt, carry-at, length-shift, length-reduction, bytes-reduction, low-sum, timesX-last, timesX-xor, block-timesX}
+use Rattle.blocks.proofs.TimesX.{carry-lt, carry-at, length-shift, length-reduction, bytes-reduction, low-sum, timesX-last, timesX-xor}
 
 -- ---- blocks go to blocks
 

@@ -8,7 +8,7 @@ use lib.Dec.{lit<}
 use lib.IntN.{ℤ, pos, negsuc}
 use Rattle.blocks.specs.Bytes.{Block, xorBytes}
 use Rattle.blocks.specs.Field.{steps, mul}
-use Rattle.blocks.specs.Gf128.{timesX, jump, overX, jumpBy, num, product, one, power}
+use Rattle.blocks.specs.Gf128.{jump, overX, jumpBy, num, product, one, power}
 use Rattle.blocks.proofs.Field.{mul-right, mul-one, mul-comm, mul-assoc, mul-lt, mul-steps}
 use Rattle.blocks.proofs.XorBytes.{block-xor}
 use Rattle.blocks.proofs.TimesX.{block-jump, block-one}

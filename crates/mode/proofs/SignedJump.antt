@@ -1,6 +1,6 @@
 -- The jump call by a signed distance: it gives the signed jump wherever the distance is in range; so what holds of signed jumps holds of its
 -- outcomes.
-use mathlib.Core.Path.{_≡_, refl, sym, ap, subst, _∙_}
+use mathlib.Core.Path.{_≡_, sym, ap, subst, _∙_}
 use mathlib.Core.List.{List}
 use Prim.Native.Nat.{ℕ, _≤_}
 use lib.IntN.{ℤ, pos, negsuc, negℤ, natAbs, _+ℤ_, +ℤ-comm}
@@ -11,7 +11,7 @@ use Rattle.blocks.specs.Bytes.{Block}
 use Rattle.blocks.specs.Gf128.{jump, jumpBy}
 use Rattle.blocks.proofs.Sign.{abs-neg}
 use Rattle.blocks.proofs.JumpBy.{block-jumpBy, jumpBy-add, jumpBy-undone}
-use Rattle.mode.specs.Mode.{Cipher, Lawful, Source, startMask, unbroken}
+use Rattle.mode.specs.Mode.{Cipher, Lawful, startMask}
 use Rattle.mode.specs.Table.{decide, tooFar, limit}
 use Rattle.mode.specs.Calls.{jumpMask, jumpRows}
 use Rattle.mode.specs.Demands.{InRange, JumpsTo, SignedJump}

@@ -3,7 +3,6 @@ use borrow.Author.Needs.{needs}
 use mathlib.Core.Path.{_≡_, _∙_}
 use mathlib.Core.List.{List}
 use Prim.Native.Nat.{ℕ, _≤_, _-_}
-use native.Mathlib.Omega.{arith}
 use lib.ListN.{getD}
 use Rattle.blocks.specs.Bytes.{Block}
 use Rattle.blocks.specs.Gf128.{overX}

@@ -1,6 +1,6 @@
 -- With no bit yet, x^0 stays; else the square, and one step where the bit is set.
 use borrow.Author.Needs.{needs}
-use mathlib.Core.Path.{_≡_, sym, ap, _∙_}
+use mathlib.Core.Path.{_≡_, ap, _∙_}
 use Prim.Native.Nat.{ℕ, _/_}
 use native.Mathlib.Omega.{arith}
 use Rattle.blocks.specs.Gf128.{signed, power as powerOf}
