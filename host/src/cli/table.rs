@@ -290,7 +290,8 @@ pub static COMMANDS: [Command; 13] = [
         name: "demo",
         summary: "see what all this is for, in a few seconds",
         text: "Seals a made-up route list whole and in runs out of order, opens it, and damages it: what is handed out, and \
-               what is not. The exit status is 0 only if all was as it should be.",
+               what is not. Then jumps back from the mask of a list's tail to its start mask. The exit status is 0 only if \
+               all was as it should be.",
         options: &[],
         operand: Operand::None,
         binary: false,
