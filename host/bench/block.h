@@ -45,4 +45,11 @@ static inline block times_x(block b) {
     return product;
 }
 
+/* 87 added before the shift is 43 added after it. */
+static inline block divided_by_x(block b) {
+    uint64_t odd = b.lower & 1;
+    block quotient = {b.upper >> 1 | odd << 63, (b.upper << 63 | b.lower >> 1) ^ (0x43 & (0 - odd))};
+    return quotient;
+}
+
 #endif

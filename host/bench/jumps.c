@@ -1,4 +1,4 @@
-/* The jump of a mask, and the same way gone block by block. Each call goes on from the mask that the last one left. */
+/* The jump of a mask, and the same way gone block by block, forward and back. Each call goes on from the mask that the last one left. */
 #include "balzenoh.h"
 #include "block.h"
 #include "work.h"
@@ -7,42 +7,94 @@
 
 static uint8_t mask[16] = {1};
 
-void jump(const struct contestant *who, size_t blocks) {
+static void jump(int32_t distance) {
     uint8_t out[16];
-    (void)who;
-    balzenoh_jump(mask, 16, (uint32_t)blocks, out, 16);
+    balzenoh_jump(mask, 16, distance, out, 16);
     memcpy(mask, out, 16);
 }
 
-void steps_by_words(const struct contestant *who, size_t blocks) {
+static void jump_forward(const struct contestant *who, size_t blocks) {
     (void)who;
+    jump((int32_t)blocks);
+}
+
+static void jump_back(const struct contestant *who, size_t blocks) {
+    (void)who;
+    jump(-(int32_t)blocks);
+}
+
+/* ---- single steps; the compiler sees which step it is, and puts it into the loop */
+
+static inline void step_by_words(block (*step)(block), size_t blocks) {
     block b = load_block(mask);
     for (size_t i = 0; i < blocks; i++)
-        b = times_x(b);
+        b = step(b);
     store_block(mask, b);
 }
 
-static void times_x_by_bytes(uint8_t b[16]) {
+static inline void step_by_bytes(void (*step)(uint8_t *), size_t blocks) {
+    for (size_t i = 0; i < blocks; i++)
+        step(mask);
+}
+
+static inline void multiply_bytes(uint8_t *b) {
     uint8_t carry = b[0] >> 7;
     for (int i = 0; i < 15; i++)
         b[i] = (uint8_t)(b[i] << 1 | b[i + 1] >> 7);
     b[15] = (uint8_t)(b[15] << 1 ^ carry * 0x87);
 }
 
-void steps_by_bytes(const struct contestant *who, size_t blocks) {
+static inline void divide_bytes(uint8_t *b) {
+    uint8_t odd = b[15] & 1;
+    b[15] = (uint8_t)(b[15] ^ odd * 0x87);
+    for (int i = 15; i > 0; i--)
+        b[i] = (uint8_t)(b[i] >> 1 | b[i - 1] << 7);
+    b[0] = (uint8_t)(b[0] >> 1 | odd << 7);
+}
+
+static void multiply_by_words(const struct contestant *who, size_t blocks) {
     (void)who;
-    for (size_t i = 0; i < blocks; i++)
-        times_x_by_bytes(mask);
+    step_by_words(times_x, blocks);
+}
+
+static void divide_by_words(const struct contestant *who, size_t blocks) {
+    (void)who;
+    step_by_words(divided_by_x, blocks);
+}
+
+static void multiply_by_bytes(const struct contestant *who, size_t blocks) {
+    (void)who;
+    step_by_bytes(multiply_bytes, blocks);
+}
+
+static void divide_by_bytes(const struct contestant *who, size_t blocks) {
+    (void)who;
+    step_by_bytes(divide_bytes, blocks);
+}
+
+work *const ways[DIRECTIONS][WAYS] = {
+    {jump_forward, multiply_by_bytes, multiply_by_words},
+    {jump_back, divide_by_bytes, divide_by_words},
+};
+
+/* ---- the results */
+
+static void compare_ways(int direction) {
+    uint8_t jumped[16];
+    for (int way = 0; way < WAYS; way++) {
+        memcpy(mask, message, 16);
+        ways[direction][way](NULL, LONG_LIST);
+        if (way == JUMP)
+            memcpy(jumped, mask, 16);
+        else if (memcmp(jumped, mask, 16) != 0)
+            differs(direction == BACK ? "jump back" : "jump", "single steps");
+    }
 }
 
 void compare_jumps(void) {
-    work *const ways[] = {jump, steps_by_words, steps_by_bytes};
-    uint8_t results[3][16];
-    for (int i = 0; i < 3; i++) {
-        memcpy(mask, message, 16);
-        ways[i](NULL, LONG_LIST);
-        memcpy(results[i], mask, 16);
-    }
-    if (memcmp(results[0], results[1], 16) != 0 || memcmp(results[0], results[2], 16) != 0)
-        differs("jump", "single steps");
+    compare_ways(BACK);
+    compare_ways(FORWARD);
+    jump_back(NULL, LONG_LIST);
+    if (memcmp(mask, message, 16) != 0)
+        differs("jump there and back", "the mask");
 }

@@ -39,6 +39,12 @@ static void measure_threads(struct figures *f) {
     stop_helper();
 }
 
+static void measure_masks(struct figures *f, int direction) {
+    for (int way = 0; way < WAYS; way++)
+        measure(&f->far[direction][way], way == JUMP ? 10 : 1, ways[direction][way], NULL, LONG_LIST);
+    measure(&f->jump_one[direction], 10, ways[direction][JUMP], NULL, 1);
+}
+
 static void measure_round(struct figures *f) {
     for (int task = 0; task < TASKS; task++)
         for (int who = 0; who < CONTESTANTS; who++) {
@@ -46,10 +52,8 @@ static void measure_round(struct figures *f) {
             measure(&f->task[SHORT][task][who], 100, tasks[task], contestants[who], SHORT_LIST);
         }
     measure_threads(f);
-    measure(&f->jump_far, 10, jump, NULL, LONG_LIST);
-    measure(&f->jump_one, 10, jump, NULL, 1);
-    measure(&f->steps_words, 1, steps_by_words, NULL, LONG_LIST);
-    measure(&f->steps_bytes, 1, steps_by_bytes, NULL, LONG_LIST);
+    measure_masks(f, FORWARD);
+    measure_masks(f, BACK);
 }
 
 int main(int count, char **arguments) {

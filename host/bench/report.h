@@ -11,7 +11,7 @@ enum { LONG, SHORT, SIZES };
 /* The best times, in nanoseconds a call. */
 struct figures {
     double task[SIZES][TASKS][CONTESTANTS];
-    double jump_far, jump_one, steps_words, steps_bytes;
+    double far[DIRECTIONS][WAYS], jump_one[DIRECTIONS];
     double one_thread, two_threads, with_helper, one_thread_lists, two_threads_lists;
 };
 

@@ -33,6 +33,26 @@ static void print_over_aes(const struct figures *f, int task, int aes) {
            over_aes(f, task, aes, OURS), over_aes(f, task, aes, BYTES_O3), over_aes(f, task, aes, WORDS));
 }
 
+/* How many times the jump the single steps take. */
+static double over_jump(const struct figures *f, int direction, int way) {
+    return f->far[direction][way] / f->far[direction][JUMP];
+}
+
+static void print_steps(const struct figures *f, const char *what, int way) {
+    printf("  %-32s", what);
+    for (int direction = 0; direction < DIRECTIONS; direction++)
+        printf("%10.0f%16.1f", f->far[direction][way], over_jump(f, direction, way));
+    printf("\n");
+}
+
+static void print_masks(const struct figures *f) {
+    printf("%-34s%10s%16s%10s%16s\n", "masks, ns", "forward", "times the jump", "back", "times the jump");
+    printf("  %-32s%10.0f%26.0f\n", "jump by 4000", f->far[FORWARD][JUMP], f->far[BACK][JUMP]);
+    printf("  %-32s%10.0f%26.0f\n", "jump by 1", f->jump_one[FORWARD], f->jump_one[BACK]);
+    print_steps(f, "4000 steps in C, by bytes", STEPS_BY_BYTES);
+    print_steps(f, "4000 steps in C, by 64-bit words", STEPS_BY_WORDS);
+}
+
 static void print_threads(const char *what, double one, double two, int lists) {
     printf("  %-41s%10.0f%12.0f%10.2f\n", what, one / (1e3 * lists), two / (1e3 * lists), one / two);
 }
@@ -44,18 +64,23 @@ void print_table(const struct figures *f) {
     printf("the mode over bare AES, 64000 bytes (the paper's figure: 0.884)\n");
     print_over_aes(f, SEAL, ENCRYPT);
     print_over_aes(f, OPEN, DECRYPT);
-    printf("masks, ns\n");
-    printf("  %-22s%10.0f\n  %-22s%10.0f\n", "jump by 4000", f->jump_far, "jump by 1", f->jump_one);
-    printf("  %-32s%10.0f%10.1f times the jump\n", "4000 steps in C, by bytes", f->steps_bytes, f->steps_bytes / f->jump_far);
-    printf("  %-32s%10.0f%10.1f times the jump\n", "4000 steps in C, by 64-bit words", f->steps_words, f->steps_words / f->jump_far);
+    print_masks(f);
     printf("the longest list in two runs, us a list%14s%12s%10s\n", "one thread", "two", "ratio");
     print_threads("one list, with the second thread's start", f->one_thread, f->two_threads, 1);
     print_threads("eight lists in turn, with its start", f->one_thread_lists, f->two_threads_lists, LISTS);
     print_threads("one list, second thread waiting", f->one_thread, f->with_helper, 1);
 }
 
+static void print_expectation(const char *what, double figure, const char *bound, double value, int met) {
+    printf("  %-52s%8.3f  %-8s %4.2f  %s\n", what, figure, bound, value, met ? "met" : "not met");
+}
+
 static void expect(const char *what, double figure, double least) {
-    printf("  %-52s%8.3f  at least %4.2f  %s\n", what, figure, least, figure >= least ? "met" : "not met");
+    print_expectation(what, figure, "at least", least, figure >= least);
+}
+
+static void expect_at_most(const char *what, double figure, double most) {
+    print_expectation(what, figure, "at most", most, figure <= most);
 }
 
 void print_expectations(const struct figures *f) {
@@ -68,8 +93,11 @@ void print_expectations(const struct figures *f) {
         }
     expect("seal over AES encrypt, Balzenoh", over_aes(f, SEAL, ENCRYPT, OURS), 0.93);
     expect("open over AES decrypt, Balzenoh", over_aes(f, OPEN, DECRYPT, OURS), 0.93);
-    expect("4000 steps by bytes over jump by 4000", f->steps_bytes / f->jump_far, 8);
-    expect("4000 steps by 64-bit words over jump by 4000", f->steps_words / f->jump_far, 8);
+    expect("4000 steps by bytes over jump by 4000", over_jump(f, FORWARD, STEPS_BY_BYTES), 8);
+    expect("4000 steps by 64-bit words over jump by 4000", over_jump(f, FORWARD, STEPS_BY_WORDS), 8);
+    expect("4000 divisions by bytes over jump by -4000", over_jump(f, BACK, STEPS_BY_BYTES), 8);
+    expect("4000 divisions by 64-bit words over jump by -4000", over_jump(f, BACK, STEPS_BY_WORDS), 8);
+    expect_at_most("jump by -4000 over jump by 4000", f->far[BACK][JUMP] / f->far[FORWARD][JUMP], 1.1);
     expect("one thread over two, one list", f->one_thread / f->two_threads, 1.8);
     expect("one thread over two, eight lists", f->one_thread_lists / f->two_threads_lists, 1.8);
     expect("one thread over two, one list, second waiting", f->one_thread / f->with_helper, 1.8);

@@ -11,8 +11,11 @@ typedef void work(const struct contestant *who, size_t blocks);
 
 work seal_list, open_list, check_list, encrypt_blocks, decrypt_blocks;
 
-/* Jumps of a mask by the library, and as many single steps in C; `who` is not used. */
-work jump, steps_by_words, steps_by_bytes;
+/* The ways to take a mask over so many blocks, forward and back: a jump by the library, or as many single steps in C. Forward a step is a
+   multiplication by the polynomial's variable, back a division; `who` is not used. */
+enum { FORWARD, BACK, DIRECTIONS };
+enum { JUMP, STEPS_BY_BYTES, STEPS_BY_WORDS, WAYS };
+extern work *const ways[DIRECTIONS][WAYS];
 
 /* So many longest lists sealed in two runs each, by one thread or by two; `who` is not used. */
 work seal_on_one_thread, seal_on_two_threads;

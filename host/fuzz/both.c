@@ -125,7 +125,7 @@ uint8_t both_test(slice key, slice iv, slice record, slice tag) {
     return compare(TEST, got, reference_test(key.bytes, key.len, iv.bytes, iv.len, record.bytes, record.len, tag.bytes, tag.len));
 }
 
-uint8_t both_jump(slice mask, uint32_t distance, size_t room) {
+uint8_t both_jump(slice mask, int32_t distance, size_t room) {
     lend(room, 0);
     uint8_t got = balzenoh_jump(guard_input(0, mask), mask.len, distance, out, room);
     return compare(JUMP, got, reference_jump(mask.bytes, mask.len, distance, answer, room));

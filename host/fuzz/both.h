@@ -17,7 +17,7 @@ uint8_t both_join(slice left, slice right, size_t run_room);
 uint8_t both_join_list(slice records, size_t run_room);
 uint8_t both_close(slice key, slice iv, slice run, size_t room);
 uint8_t both_test(slice key, slice iv, slice run, slice tag);
-uint8_t both_jump(slice mask, uint32_t distance, size_t room);
+uint8_t both_jump(slice mask, int32_t distance, size_t room);
 
 /* Says so and stops the program where the two are not the same bytes. */
 void must_be_same(const char *what, const uint8_t *a, const uint8_t *b, size_t len);

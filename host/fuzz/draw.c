@@ -40,6 +40,22 @@ uint32_t draw_number(draw *d) {
     }
 }
 
+int32_t draw_distance(draw *d) {
+    static const int32_t edges[] = {127, 128, 129, 3999, 4000, 4001, 4096, 65536, INT32_MAX};
+    int32_t sign = draw_rarely(d, 2) ? -1 : 1;
+    switch (draw_below(d, 5)) {
+    case 0:
+        return sign * (int32_t)draw_below(d, 20);
+    case 1:
+        return sign * (int32_t)draw_below(d, 4001);
+    case 2:
+    case 3:
+        return sign * edges[draw_below(d, sizeof edges / sizeof edges[0])];
+    default:
+        return draw_rarely(d, 8) ? INT32_MIN : (int32_t)draw_32_bits(d);
+    }
+}
+
 size_t draw_length(draw *d) {
     static const uint16_t edges[] = {63967, 63968, 63983, 63984, 63985, 63998, 63999, 64000, 64001, 64015, 64016, 64032};
     switch (draw_below(d, 32)) {

@@ -22,6 +22,9 @@ int draw_rarely(draw *d, uint32_t n);
 /* A number of blocks: near 0, near the limit, anywhere below it, or any 32 bits. */
 uint32_t draw_number(draw *d);
 
+/* A distance to jump, forward or back: near 0, within the limit, at an edge, or any 32 bits. */
+int32_t draw_distance(draw *d);
+
 /* The length of a message or a run: mostly short, often at the edge of a block, rarely at the limit's. */
 size_t draw_length(draw *d);
 

@@ -96,14 +96,28 @@ uint8_t __wrap_balzenoh_test(const uint8_t *key, size_t key_len, const uint8_t *
     return refusal;
 }
 
-uint8_t __real_balzenoh_jump(const uint8_t *, size_t, uint32_t, uint8_t *, size_t);
-uint8_t __wrap_balzenoh_jump(const uint8_t *mask, size_t mask_len, uint32_t distance, uint8_t *out, size_t out_len) {
-    uint8_t refusal = __real_balzenoh_jump(mask, mask_len, distance, out, out_len);
+/* The distance that a wrong jump takes the given one for. */
+static int32_t wrong_distance(int32_t distance) {
+    if (fault_is("sign-of-the-distance-lost") && distance < 0 && distance != INT32_MIN)
+        return -distance;
+    if (fault_is("jump-by-minus-4001-let-through") && distance == -4001)
+        return -4000;
+    if (fault_is("most-negative-distance-let-through") && distance == INT32_MIN)
+        return 0;
+    return distance;
+}
+
+/* With 85 for 87 the last division is wrong where the low bit was set before it, which is where the top bit is set after it. */
+uint8_t __real_balzenoh_jump(const uint8_t *, size_t, int32_t, uint8_t *, size_t);
+uint8_t __wrap_balzenoh_jump(const uint8_t *mask, size_t mask_len, int32_t distance, uint8_t *out, size_t out_len) {
+    uint8_t refusal = __real_balzenoh_jump(mask, mask_len, wrong_distance(distance), out, out_len);
     if (fault_is("byte-written-after-the-output"))
         out[out_len] = 0;
     if (fault_is("jump-by-4000-refused") && distance == 4000) {
         memset(out, 0, out_len);
         return refusal == 3 ? 3 : 4;
     }
+    if (fault_is("division-with-85-for-87") && refusal == 0 && distance < 0 && out[0] >= 0x80)
+        out[15] ^= (0x85 ^ 0x87) >> 1;
     return refusal;
 }

@@ -175,12 +175,17 @@ static void call_test(draw *d) {
     both_test(k, v, run, bytes_of(tag, draw_about(d, 16)));
 }
 
+/* Where the mask has jumped, the way back gives it again. */
 static void call_jump(draw *d) {
-    static uint8_t mask[64];
+    static uint8_t mask[64], there[16];
     draw_fill(d, mask, 16);
-    uint32_t distance = draw_number(d);
+    int32_t distance = draw_distance(d);
     slice m = bytes_of(mask, draw_about(d, 16));
-    both_jump(m, distance, draw_room(d, 16));
+    if (both_jump(m, distance, draw_room(d, 16)) != 0)
+        return;
+    memcpy(there, answer, 16);
+    both_jump(bytes_of(there, 16), -distance, 16);
+    must_be_same("a mask jumped there and back", answer, mask, 16);
 }
 
 /* ---- a list in runs */

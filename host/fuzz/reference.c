@@ -51,6 +51,24 @@ static poly times_x_to_the(poly p, uint32_t power) {
     return p;
 }
 
+/* Where the low bit is set the polynomial is added before the shift. Its 128th power is above the block, and comes in with the shift. */
+static poly divided_by_x(poly p) {
+    uint64_t above = 0;
+    if ((p.lower & 1) != 0) {
+        p.lower ^= 0x87;
+        above = 1;
+    }
+    p.lower = p.lower >> 1 | p.upper << 63;
+    p.upper = p.upper >> 1 | above << 63;
+    return p;
+}
+
+static poly divided_by_x_to_the(poly p, uint32_t power) {
+    while (power-- > 0)
+        p = divided_by_x(p);
+    return p;
+}
+
 /* ---- the mode */
 
 static poly encrypt(const aes_keys *keys, poly p) {
@@ -342,15 +360,16 @@ uint8_t reference_test(const uint8_t *key, size_t key_len, const uint8_t *iv, si
     return right.upper == given.upper && right.lower == given.lower ? 0 : 6;
 }
 
-uint8_t reference_jump(const uint8_t *mask, size_t mask_len, uint32_t distance, uint8_t *out, size_t out_len) {
+uint8_t reference_jump(const uint8_t *mask, size_t mask_len, int32_t distance, uint8_t *out, size_t out_len) {
     zero(out, out_len);
     if (mask_len != 16)
         return 3;
-    if (distance > LIMIT)
+    if (distance < -LIMIT || distance > LIMIT)
         return 4;
     if (out_len < 16)
         return 5;
-    from_poly(out, times_x_to_the(to_poly(mask), distance));
+    poly p = to_poly(mask);
+    from_poly(out, distance < 0 ? divided_by_x_to_the(p, (uint32_t)-distance) : times_x_to_the(p, (uint32_t)distance));
     return 0;
 }
 

@@ -1,5 +1,5 @@
 /* The nine calls once more, written from the papers alone, as the judge of the library: the same arguments, refusals and outputs as in
-   balzenoh.h. Made to be read and compared, not to be fast: a mask is stepped from block to block, and so is a jump. */
+   balzenoh.h. Made to be read and compared, not to be fast: a mask is stepped from block to block, and so is a jump, forward or back. */
 #ifndef REFERENCE_H
 #define REFERENCE_H
 
@@ -24,7 +24,7 @@ uint8_t reference_close(const uint8_t *key, size_t key_len, const uint8_t *iv, s
                         uint8_t *tag, size_t tag_len);
 uint8_t reference_test(const uint8_t *key, size_t key_len, const uint8_t *iv, size_t iv_len, const uint8_t *run, size_t run_len,
                        const uint8_t *tag, size_t tag_len);
-uint8_t reference_jump(const uint8_t *mask, size_t mask_len, uint32_t distance, uint8_t *out, size_t out_len);
+uint8_t reference_jump(const uint8_t *mask, size_t mask_len, int32_t distance, uint8_t *out, size_t out_len);
 
 /* The one IV under which this key's start mask comes out as zero, so that the key takes its place. */
 void reference_zero_mask_iv(const uint8_t key[16], uint8_t iv[16]);

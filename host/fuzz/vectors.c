@@ -1,4 +1,5 @@
-/* The reference judged before it judges: FIPS 197's example (appendix C.1) and the mode's published one- and two-block values. */
+/* The reference judged before it judges: FIPS 197's example (appendix C.1), the mode's published one- and two-block values, and jumps back
+   between its published masks. */
 #include "aes.h"
 #include "reference.h"
 
@@ -49,6 +50,13 @@ static void check_mode(const uint8_t key[16], const uint8_t iv[16], const uint8_
     must_be(run, "0000000000000002663A59D5F6E4C59D291C40AECFE0CE28", "the record of two blocks");
 }
 
+static void check_jump(const char *mask, int32_t distance, const char *jumped, const char *what) {
+    uint8_t block[16], out[16];
+    from_hex(block, mask);
+    reference_jump(block, 16, distance, out, 16);
+    must_be(out, jumped, what);
+}
+
 void reference_start(void) {
     uint8_t key[16], iv[16], block[16];
     aes_start();
@@ -57,4 +65,7 @@ void reference_start(void) {
     from_hex(block, "00112233445566778899AABBCCDDEEFF");
     check_cipher(key, block);
     check_mode(key, iv, block);
+    check_jump("00000000000000000000000000000001", -1, "80000000000000000000000000000043", "ticket P1's example");
+    check_jump("FBDA5324122747B5193D945E1FA869D3", -1, "FDED29920913A3DA8C9ECA2F0FD434AA", "the second mask jumped back");
+    check_jump("1E68C2E51D9A74F67A799130112CE065", -1, "8F3461728ECD3A7B3D3CC89808967071", "the mask after the last block jumped back");
 }

@@ -69,19 +69,19 @@
  *  - Its size, and the stack that each call was seen to use, from its caller's frame down, as
  *    host/stack/run printed them, in bytes:
  *
- *      code      22316
+ *      code      22709
  *      constants  2016
  *      variables     0
  *
  *      seal       1696
  *      open       2128
  *      seal_run   1712
- *      check_run  1728
- *      join        656
- *      join_list   656
- *      close      1712
- *      test       1696
- *      jump        576
+ *      check_run  1712
+ *      join        640
+ *      join_list   672
+ *      close      1696
+ *      test       1680
+ *      jump        592
  *
  *    No function recurses. No proof bounds the stack.
  *
@@ -95,7 +95,8 @@
  *   2  the IV is not 16 bytes
  *   3  the message is above 63,999 bytes; the sealed record below 48, above 64,032 or no multiple of
  *      16; a middle run or a checked run is no multiple of 16; the tag or the mask is not 16 bytes
- *   4  first block plus count is above 4,000, for a run or a run record; a jump is above 4,000
+ *   4  first block plus count is above 4,000, for a run or a run record; a jump is longer than 4,000
+ *      blocks, either way
  *   8  two records in turn of which the left one does not end where the right one starts
  *   9  the record to be closed or tested does not start at block 0 or has no block; an empty list
  *   5  an output is shorter than its answer; in balzenoh_open, shorter than the ciphertext
@@ -118,7 +119,7 @@ extern "C" {
 /* Bytes of a run record. */
 #define BALZENOH_RUN_RECORD 24
 
-/* The most blocks that a list has. */
+/* The most blocks that a list has, and that a mask jumps, forward or back. */
 #define BALZENOH_LIMIT 4000
 
 /* Bytes of the longest message, and of the sealed record that it gives. */
@@ -248,13 +249,16 @@ uint8_t balzenoh_test(const uint8_t *key, size_t key_len,
                       const uint8_t *tag, size_t tag_len);
 
 /*
- * Jumps a mask forward by `distance` blocks, 0 to 4,000. It goes by squaring, not block by block.
+ * Jumps a mask by `distance` blocks, -4,000 to 4,000: forward, or back where it is negative. Either way
+ * it goes by squaring, not block by block. Forward and back by the same number gives the mask again.
+ * Jumped back by its first block, the first mask of a run is the list's start mask; so is the mask
+ * after the last block, jumped back by the number of blocks.
  *
- * Refusals: 3 (mask_len not 16), 4 (distance above 4,000), 5 (out_len below 16).
+ * Refusals: 3 (mask_len not 16), 4 (distance below -4,000 or above 4,000), 5 (out_len below 16).
  * On success out has the 16 bytes of the mask, then zeros.
  */
 uint8_t balzenoh_jump(const uint8_t *mask, size_t mask_len,
-                      uint32_t distance,
+                      int32_t distance,
                       uint8_t *out, size_t out_len);
 
 #ifdef __cplusplus

@@ -33,6 +33,6 @@ extern "C" {
         tag: *const u8, tag_len: usize,
     ) -> u8;
     pub fn balzenoh_jump(
-        mask: *const u8, mask_len: usize, distance: u32, out: *mut u8, out_len: usize,
+        mask: *const u8, mask_len: usize, distance: i32, out: *mut u8, out_len: usize,
     ) -> u8;
 }

@@ -102,7 +102,7 @@ pub fn test(key: &[u8], iv: &[u8], run: &[u8], tag: &[u8]) -> u8 {
 }
 
 #[rustfmt::skip]
-pub fn jump(mask: &[u8], distance: u32, out: &mut [u8]) -> u8 {
+pub fn jump(mask: &[u8], distance: i32, out: &mut [u8]) -> u8 {
     // SAFETY: slices valid for their lengths, `out` borrowed exclusively (see above).
     unsafe {
         balzenoh_jump(

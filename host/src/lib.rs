@@ -34,7 +34,7 @@
 //! | join run records | [`RunRecord::join`], [`join_list`] | [`raw::join`], [`raw::join_list`] |
 //! | close a record into its tag | [`close`] | [`raw::close`] |
 //! | test a tag | [`test`](fn@test) | [`raw::test`] |
-//! | jump a mask | [`jump`] | [`raw::jump`] |
+//! | jump a mask, forward or back | [`jump`] | [`raw::jump`] |
 
 #![deny(unsafe_code)]
 #![warn(missing_docs)]

@@ -180,23 +180,25 @@ pub fn test(key: &[u8], iv: &[u8], run: &[u8], tag: &[u8]) -> Result<(), Refusal
     refused(ffi::test(key, iv, run, tag))
 }
 
-/// Jumps a mask forward by a number of blocks.
+/// Jumps a mask by a number of blocks: forward, or back where it is negative.
 ///
 /// # Errors
 ///
-/// [`Length`](Refusal::Length) for a mask that is not 16 bytes, [`BeyondLimit`](Refusal::BeyondLimit) for a number above 4,000,
-/// [`OutputTooShort`](Refusal::OutputTooShort).
+/// [`Length`](Refusal::Length) for a mask that is not 16 bytes, [`BeyondLimit`](Refusal::BeyondLimit) for a number below -4,000 or
+/// above 4,000, [`OutputTooShort`](Refusal::OutputTooShort).
 ///
 /// ```
 /// use balzenoh::{raw, Refusal};
 ///
 /// let mut out = [0xA5; 16];
-/// assert_eq!(raw::jump(&[9; 16], 0, &mut out), Ok(()));
+/// assert_eq!(raw::jump(&[9; 16], -1_200, &mut out), Ok(()));
+/// let back = out;
+/// assert_eq!(raw::jump(&back, 1_200, &mut out), Ok(()));
 /// assert_eq!(out, [9; 16]);
-/// assert_eq!(raw::jump(&[9; 16], 4_001, &mut out), Err(Refusal::BeyondLimit));
+/// assert_eq!(raw::jump(&[9; 16], -4_001, &mut out), Err(Refusal::BeyondLimit));
 /// assert_eq!(out, [0; 16]);
 /// ```
-pub fn jump(mask: &[u8], distance: u32, out: &mut [u8]) -> Result<(), Refusal> {
+pub fn jump(mask: &[u8], distance: i32, out: &mut [u8]) -> Result<(), Refusal> {
     refused(ffi::jump(mask, distance, out))
 }
 

@@ -19,7 +19,7 @@ pub enum Refusal {
     IvLength,
     /// 3: the message, sealed record, run, tag or mask has a length that no such thing has.
     Length,
-    /// 4: the blocks reach beyond the limit of 4,000.
+    /// 4: the blocks reach beyond the limit of 4,000, or a jump does, forward or back.
     BeyondLimit,
     /// 5: the lent output is shorter than the answer.
     OutputTooShort,
@@ -73,7 +73,7 @@ const TABLE: [(u8, Refusal, &str); 10] = [
         4,
         Refusal::BeyondLimit,
         "The blocks go beyond the limit of 4,000 that a list may have. Look at the number of the first block, and at the size of \
-         this part of the list.",
+         this part of the list; where a mask is to jump, at the distance, which is at most 4,000 forward or back.",
     ),
     (
         5,

@@ -4,7 +4,7 @@
 pub const BLOCK: usize = 16;
 /// A run record.
 pub const RECORD: usize = 24;
-/// The most blocks that a list has.
+/// The most blocks that a list has, and that a mask jumps, forward or back.
 pub const LIMIT: usize = 4_000;
 /// The longest message; its padding fills the last block.
 pub const LONGEST_MESSAGE: usize = LIMIT * BLOCK - 1;

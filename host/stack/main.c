@@ -75,9 +75,11 @@ static void test(void) {
     answer |= balzenoh_test(key, 16, iv, 16, run, sizeof run, tag, sizeof tag);
 }
 
+/* Forward and back: the deeper one counts. */
 static void jump(void) {
     CALLER();
-    answer |= balzenoh_jump(mask, sizeof mask, blocks, out, sizeof out);
+    answer |= balzenoh_jump(mask, sizeof mask, (int32_t)blocks, out, sizeof out);
+    answer |= balzenoh_jump(mask, sizeof mask, -(int32_t)blocks, out, sizeof out);
 }
 
 static const struct {

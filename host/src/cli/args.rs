@@ -103,8 +103,8 @@ impl Args {
         self.values.iter().find(|(option, _)| option.long == name).map(|(_, value)| value.as_os_str())
     }
 
-    /// A number. One that is too large to be right in any case is the largest there is.
-    pub fn number(&self, name: &str) -> Option<u64> {
+    /// A number. One that does not fit 64 bits is the nearest that does.
+    pub fn number(&self, name: &str) -> Option<i64> {
         self.value(name).and_then(decimal)
     }
 
@@ -141,8 +141,7 @@ fn require_value(name: &str, takes: &Value, value: &OsStr) -> Result<(), Failure
         Value::File(_) if value.is_empty() => format!("{name} needs the name of a file, and has an empty one"),
         Value::Digits(_) if value == "@" => format!("{name} has no name after the @"),
         Value::Number(_, least, most) if !decimal(value).is_some_and(|number| (*least..=*most).contains(&number)) => {
-            let until = if *most == u64::MAX { "on".to_string() } else { format!("to {most}") };
-            format!("{name} {}, and must be a whole number from {least} {until}", given_number(value))
+            format!("{name} {}, and must be a whole number {}", given_number(value), bounds(*least, *most))
         }
         _ => return Ok(()),
     };
@@ -158,7 +157,19 @@ pub fn given_number(value: &OsStr) -> String {
     }
 }
 
-fn decimal(value: &OsStr) -> Option<u64> {
-    let digits = value.to_str().filter(|text| !text.is_empty() && text.bytes().all(|byte| byte.is_ascii_digit()))?;
-    Some(digits.parse().unwrap_or(u64::MAX))
+/// Which whole numbers are meant.
+fn bounds(least: i64, most: i64) -> String {
+    match (least, most) {
+        (i64::MIN, i64::MAX) => "in digits, with a hyphen (-) before them where it is negative".to_string(),
+        (least, i64::MAX) => format!("from {least} on"),
+        (least, most) => format!("from {least} to {most}"),
+    }
+}
+
+/// Digits, after a hyphen where the number is negative.
+fn decimal(value: &OsStr) -> Option<i64> {
+    let text = value.to_str()?;
+    let (digits, nearest) = text.strip_prefix('-').map_or((text, i64::MAX), |digits| (digits, i64::MIN));
+    let made_of_digits = !digits.is_empty() && digits.bytes().all(|byte| byte.is_ascii_digit());
+    made_of_digits.then(|| text.parse().unwrap_or(nearest))
 }

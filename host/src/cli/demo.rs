@@ -4,11 +4,12 @@ use std::fmt::Write;
 use std::sync::Mutex;
 use std::thread;
 
-use balzenoh::sizes::{padded_blocks, BLOCK};
-use balzenoh::{close, join_list, open, open_into, seal, seal_run, Iv, Key, Kind, Refusal, RunRecord};
+use balzenoh::sizes::{padded_blocks, BLOCK, LIMIT};
+use balzenoh::{close, join_list, jump, open, open_into, seal, seal_run, Iv, Key, Kind, Refusal, RunRecord};
 
 use super::args::Args;
 use super::failure::Failure;
+use super::names::grouped;
 use super::output::Outputs;
 use super::standard;
 
@@ -16,6 +17,12 @@ use super::standard;
 const ORDER: [usize; 7] = [4, 1, 6, 0, 3, 5, 2];
 const RUNS: usize = ORDER.len();
 const THREADS: usize = 2;
+
+/// Masks of the list of 1,000,000 blocks in the mode's paper: that of its last block, and the start mask.
+const TAIL_MASK: u128 = 0x8F3461728ECD3A7B3D3CC89808967071;
+const START_MASK: u128 = 0xFDED29920913A3DA8C9ECA2F0FD434AA;
+/// The number of blocks before the last.
+const BEFORE_TAIL: i32 = 999_999;
 
 /// What is told, and whether all was as it should be.
 struct Story {
@@ -63,7 +70,7 @@ fn tell_all(story: &mut Story) -> Result<(), Refusal> {
     opened(story, &key, &list, &sealed);
     damaged(story, &key, &sealed);
     run_left_out(story, &key, &iv, &sealed, &runs);
-    Ok(())
+    tail_first(story)
 }
 
 /// A few hundred lines that say into which cage a parcel falls.
@@ -142,6 +149,30 @@ fn run_left_out(story: &mut Story, key: &Key, iv: &Iv, sealed: &[u8], runs: &[Se
     let shortened = [iv.as_bytes(), &ciphertexts[..], &sealed[sealed.len() - BLOCK..]].concat();
     story.tell("The ciphertext of one run left out, the tag as it was:");
     refused(story, open(key, &shortened), Refusal::TagDiffers);
+}
+
+/// A board that knows only the mask of its tail.
+fn tail_first(story: &mut Story) -> Result<(), Refusal> {
+    let (before, most) = (grouped(BEFORE_TAIL as usize), grouped(LIMIT));
+    story.tell(
+        "\nThe last of 1,000,000 blocks arrives first, and its board knows only the mask of it, here as the mode's paper has it:",
+    );
+    story.tell(&format!("    {TAIL_MASK:032X}\nJumped back by the {before} blocks before it, at most {most} at a time:"));
+    let start = jumped(TAIL_MASK.to_be_bytes(), -BEFORE_TAIL)?;
+    story.check(&format!("the paper's start mask, {START_MASK:032X}"), start == START_MASK.to_be_bytes());
+    story.tell("Jumped forward again by as many:");
+    story.check("the mask of the last block", jumped(start, BEFORE_TAIL)? == TAIL_MASK.to_be_bytes());
+    Ok(())
+}
+
+/// A jump of any length, in jumps that the library takes.
+fn jumped(mut mask: [u8; BLOCK], mut left: i32) -> Result<[u8; BLOCK], Refusal> {
+    while left != 0 {
+        let distance = left.clamp(-(LIMIT as i32), LIMIT as i32);
+        mask = jump(&mask, distance)?;
+        left -= distance;
+    }
+    Ok(mask)
 }
 
 fn refused<T>(story: &mut Story, result: Result<T, Refusal>, expected: Refusal) {

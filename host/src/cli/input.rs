@@ -68,7 +68,7 @@ fn run(args: &Args, what: &str, blocks: fn(usize) -> usize, faults: &mut Faults)
 
 fn judge_blocks(args: &Args, name: &str, blocks: usize, faults: &mut Faults) {
     let first = args.number(table::FIRST).unwrap_or_default();
-    faults.unless(first.saturating_add(blocks as u64) <= LIMIT as u64, Refusal::BeyondLimit, || {
+    faults.unless(first.saturating_add(blocks as i64) <= LIMIT as i64, Refusal::BeyondLimit, || {
         let most = grouped(LIMIT);
         let has = if blocks > LIMIT { format!("more than {most} blocks") } else { counted(blocks, "block") };
         let first = given_number(args.value(table::FIRST).unwrap_or_default());

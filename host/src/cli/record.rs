@@ -8,7 +8,6 @@ use super::failure::Failure;
 use super::faults::Faults;
 use super::names::grouped;
 use super::output::{self, Outputs};
-use super::run::block_number;
 use super::{standard, table, value};
 
 pub fn join(args: &Args, outputs: &Outputs) -> Result<(), Failure> {
@@ -57,12 +56,17 @@ pub fn test(args: &Args, _: &Outputs) -> Result<(), Failure> {
 pub fn jump(args: &Args, _: &Outputs) -> Result<(), Failure> {
     let mut faults = Faults::default();
     let mask = value::mask(args, &mut faults)?;
-    let given = given_number(args.value(table::DISTANCE).unwrap_or_default());
-    faults.add(Refusal::BeyondLimit, format!("{} {given}, and a mask jumps by 0 to {} blocks", table::DISTANCE, grouped(LIMIT)));
+    let (given, most) = (given_number(args.value(table::DISTANCE).unwrap_or_default()), grouped(LIMIT));
+    faults.add(Refusal::BeyondLimit, format!("{} {given}, and a mask jumps by -{most} to {most} blocks", table::DISTANCE));
     let mut jumped = [0; BLOCK];
-    let distance = block_number(args, table::DISTANCE);
-    raw::jump(&mask, distance, &mut jumped).map_err(|refusal| faults.explain(refusal))?;
+    raw::jump(&mask, distance(args), &mut jumped).map_err(|refusal| faults.explain(refusal))?;
     output::print_digits(&jumped)
+}
+
+/// The distance for the library, which refuses the farthest either way as it would refuse any farther one.
+fn distance(args: &Args) -> i32 {
+    let given = args.number(table::DISTANCE).unwrap_or_default();
+    given.clamp(i32::MIN.into(), i32::MAX.into()) as i32
 }
 
 /// The record that is the operand.

@@ -15,7 +15,7 @@ pub fn seal_run(args: &Args, outputs: &Outputs) -> Result<(), Failure> {
     let last = args.flag(table::LAST);
     let bytes = if last { input::last_run(args, &mut faults)? } else { input::middle_run(args, &mut faults)? };
     let (mut out, mut record) = (vec![0; run_room(bytes.len(), last)], [0; RECORD]);
-    let sealed = raw::seal_run(&key, &iv, block_number(args, table::FIRST), last, &bytes, &mut out, &mut record);
+    let sealed = raw::seal_run(&key, &iv, first_block(args), last, &bytes, &mut out, &mut record);
     let length = sealed.map_err(|refusal| faults.explain(refusal))?;
     outputs.write_second_record(&record)?;
     outputs.write(&out[..length])
@@ -26,12 +26,12 @@ pub fn check_run(args: &Args, outputs: &Outputs) -> Result<(), Failure> {
     let (key, iv) = (value::key(args, &mut faults)?, value::iv(args, &mut faults)?);
     let ciphertext = input::ciphertext(args, &mut faults)?;
     let mut record = [0; RECORD];
-    let checked = raw::check_run(&key, &iv, block_number(args, table::FIRST), &ciphertext, &mut record);
+    let checked = raw::check_run(&key, &iv, first_block(args), &ciphertext, &mut record);
     checked.map_err(|refusal| faults.explain(refusal))?;
     outputs.write_record(&record)
 }
 
-/// A number of blocks for the library, which refuses the largest as it would refuse any larger one.
-pub fn block_number(args: &Args, name: &str) -> u32 {
-    args.number(name).map_or(0, |number| u32::try_from(number).unwrap_or(u32::MAX))
+/// The first block for the library, which refuses the largest number as it would refuse any larger one.
+fn first_block(args: &Args) -> u32 {
+    args.number(table::FIRST).map_or(0, |number| u32::try_from(number).unwrap_or(u32::MAX))
 }

@@ -11,7 +11,7 @@ pub enum Value {
     /// Hexadecimal digits, or `@` and a file.
     Digits(&'static str),
     /// A decimal number, at least and at most so large.
-    Number(&'static str, u64, u64),
+    Number(&'static str, i64, i64),
     /// A file to write.
     File(&'static str),
 }
@@ -102,7 +102,7 @@ pub const OUTPUT: &str = "--output";
 pub const RECORD: &str = "--record";
 
 /// More threads than this are surely a slip.
-const MOST_THREADS: u64 = 256;
+const MOST_THREADS: i64 = 256;
 
 const SIXTEEN: &str = "32 hexadecimal digits, or @FILE";
 
@@ -123,7 +123,7 @@ const fn iv(text: &'static str) -> Opt {
 }
 
 const fn first() -> Opt {
-    needed(FIRST, Value::Number("N", 0, u64::MAX), "the number of the run's first block; the list's first is 0")
+    needed(FIRST, Value::Number("N", 0, i64::MAX), "the number of the run's first block; the list's first is 0")
 }
 
 const fn threads(text: &'static str) -> Opt {
@@ -131,7 +131,7 @@ const fn threads(text: &'static str) -> Opt {
 }
 
 const fn runs(text: &'static str) -> Opt {
-    optional(RUNS, Value::Number("N", 1, u64::MAX), text)
+    optional(RUNS, Value::Number("N", 1, i64::MAX), text)
 }
 
 const fn output(text: &'static str) -> Opt {
@@ -271,22 +271,27 @@ pub static COMMANDS: [Command; 13] = [
     },
     Command {
         name: "jump",
-        summary: "jump a mask forward",
-        text: "Jumps a mask forward by 0 to 4,000 blocks, and prints it.",
+        summary: "jump a mask forward or back",
+        text: "Jumps a mask by -4,000 to 4,000 blocks, back where the number is negative, and prints it. The first mask of a \
+               run, jumped back by the run's first block, is the start mask of the list.",
         options: &[
             needed(MASK, Value::Digits("MASK"), SIXTEEN),
-            needed(DISTANCE, Value::Number("N", 0, u64::MAX), "the number of blocks"),
+            needed(DISTANCE, Value::Number("N", i64::MIN, i64::MAX), "the number of blocks, negative to jump back"),
         ],
         operand: Operand::None,
         binary: false,
-        examples: &["balzenoh jump --mask 00000000000000000000000000000001 --distance 128"],
+        examples: &[
+            "balzenoh jump --mask 00000000000000000000000000000001 --distance 128",
+            "balzenoh jump --mask @tail.mask --distance -1200",
+        ],
         work: record::jump,
     },
     Command {
         name: "demo",
         summary: "see what all this is for, in a few seconds",
         text: "Seals a made-up route list whole and in runs out of order, opens it, and damages it: what is handed out, and \
-               what is not. The exit status is 0 only if all was as it should be.",
+               what is not. Then jumps back from the mask of a list's tail to its start mask. The exit status is 0 only if \
+               all was as it should be.",
         options: &[],
         operand: Operand::None,
         binary: false,

@@ -1,4 +1,5 @@
-//! What only a caller in C sees: the reported length after a refusal, every value of `last`, and null pointers.
+//! What only a caller in C sees: the reported length after a refusal, every value of `last`, null pointers, and the register of a
+//! distance.
 
 #[allow(dead_code)]
 #[path = "../../src/abi.rs"]
@@ -71,6 +72,29 @@ fn anything_but_0_is_a_last_run() {
         let (key, iv, bytes) = (random.block(), random.block(), random.bytes(32));
         let call = Call::SealRun { key: &key, iv: &iv, first: 7, last: last != 0, bytes: &bytes, room: 48, record_room: 24 };
         check(&call, last, &mut random);
+    }
+}
+
+extern "C" {
+    /// The jump with the whole register in which the distance is handed over.
+    #[allow(clashing_extern_declarations)]
+    #[link_name = "balzenoh_jump"]
+    fn jump_by_register(mask: *const u8, mask_len: usize, distance: u64, out: *mut u8, out_len: usize) -> u8;
+}
+
+/// A caller may leave any bits in the upper half of the register.
+#[test]
+fn a_distance_is_the_lower_half_of_its_register() {
+    let mut random = Random::new(33);
+    for distance in [i32::MIN, -4_001, -4_000, -128, -1, 0, 1, 128, 4_000, 4_001, i32::MAX] {
+        for upper in [0, 1, 0x7FFF_FFFF, 0x8000_0000, 0xFFFF_FFFF] {
+            let (mask, mut out) = (random.block(), [0xA5; 16]);
+            let register = upper << 32 | u64::from(distance as u32);
+            // SAFETY: pointers valid for their lengths, and the function takes its distance from the lower half.
+            let number = unsafe { jump_by_register(mask.as_ptr(), 16, register, out.as_mut_ptr(), 16) };
+            let expected = reference::answer::<Fips197>(&Call::Jump { mask: &mask, distance, room: 16 });
+            assert_eq!((number, &out[..]), (expected.number, &expected.out[..]), "{distance}, upper half {upper:X}");
+        }
     }
 }
 

@@ -22,6 +22,7 @@ mod runs;
 mod sealing;
 mod secrets;
 mod spread;
+mod start_mask;
 mod typed;
 mod vectors;
 mod zero_mask;

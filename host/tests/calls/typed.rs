@@ -41,7 +41,9 @@ fn lengths_out_of_range_are_refused() {
     assert_eq!(seal_run(&key, &iv, 0, Kind::Middle, &vec![0; 64_016]), Err(Refusal::BeyondLimit));
     assert_eq!(seal_run(&key, &iv, 0, Kind::Last, &vec![0; 64_000]), Err(Refusal::BeyondLimit));
     assert_eq!(check_run(&key, &iv, 4_000, &[0; 16]), Err(Refusal::BeyondLimit));
-    assert_eq!(jump(&[0; 16], 4_001), Err(Refusal::BeyondLimit));
+    for distance in [i32::MIN, -4_001, 4_001, i32::MAX] {
+        assert_eq!(jump(&[0; 16], distance), Err(Refusal::BeyondLimit));
+    }
     assert_eq!(join_list(&[]), Err(Refusal::NotWhole));
     assert_eq!(RunRecord::from_bytes(&[0; 23]), Err(Refusal::RecordLength));
 }

@@ -5,7 +5,7 @@ use balzenoh::{close, hex, jump, open, seal_run, Iv, Key, Kind, Refusal};
 use crate::support::aesni::{self, AesNi};
 use crate::support::cipher::Cipher;
 use crate::support::fips197::Fips197;
-use crate::support::mode::{times_x, Mode};
+use crate::support::mode::{divided_by_x, divided_by_x_power, times_x, Mode};
 
 const KEY: &str = "000102030405060708090A0B0C0D0E0F";
 const IV: &str = "0123456789ABCDEF0123456789ABCDEF";
@@ -73,6 +73,9 @@ const BLOCK_1_000_000: [&str; 5] = [
     "9D6478D55514E83763C369067E8B82D0",
 ];
 
+/// The mask after the last block.
+const MASK_1_000_001: &str = "1E68C2E51D9A74F67A799130112CE065";
+
 #[test]
 fn the_reference_meets_the_published_vectors() {
     fips197_examples::<Fips197>();
@@ -109,7 +112,7 @@ fn the_library_meets_the_papers_vectors() {
     assert_eq!(open(&key, &sealed), Err(Refusal::Padding));
 }
 
-/// Cards (a) to (d).
+/// Cards (a) to (d), and ticket P1's example.
 #[test]
 fn the_library_meets_the_cards_for_jumps() {
     let one = 1_u128.to_be_bytes();
@@ -117,4 +120,24 @@ fn the_library_meets_the_cards_for_jumps() {
     assert_eq!(jump(&one, 127), Ok((1_u128 << 127).to_be_bytes()));
     assert_eq!(jump(&one, 128), Ok(0x87_u128.to_be_bytes()));
     assert_eq!(jump(&block(BLOCK_1[0]), 1), Ok(block(BLOCK_2[0])));
+    assert_eq!(jump(&one, -1), Ok(block("80000000000000000000000000000043")));
+}
+
+/// From each published mask back to the one before it, and from the mask of the last block back to the start mask.
+#[test]
+fn the_papers_masks_lead_back_to_the_start_mask() {
+    assert_eq!(jump(&block(BLOCK_2[0]), -1), Ok(block(BLOCK_1[0])));
+    assert_eq!(jump(&block(MASK_1_000_001), -1), Ok(block(BLOCK_1_000_000[0])));
+    let back = |mask: [u8; 16], distance| jump(&mask, distance).expect("in range");
+    let far = (0..249).fold(block(BLOCK_1_000_000[0]), |mask, _| back(mask, -4_000));
+    assert_eq!(back(far, -3_999), block(BLOCK_1[0]));
+}
+
+/// The references' divisions on the same masks, and on ticket P1's example.
+#[test]
+fn the_reference_divides_the_papers_masks() {
+    let number = |digits| u128::from_be_bytes(block(digits));
+    assert_eq!(digits(divided_by_x(1)), "80000000000000000000000000000043");
+    assert_eq!(digits(divided_by_x(number(MASK_1_000_001))), BLOCK_1_000_000[0]);
+    assert_eq!(digits(divided_by_x_power(number(BLOCK_1_000_000[0]), 999_999)), BLOCK_1[0]);
 }

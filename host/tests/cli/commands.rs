@@ -168,15 +168,49 @@ fn wrong_lengths_get_the_librarys_numbers() {
 #[test]
 fn masks_jump() {
     let folder = Folder::new("masks");
-    let jump = |distance| folder.run(&["jump", "--mask", "00000000000000000000000000000001", "--distance", distance]);
-    jump("0").exits(0).prints(b"00000000000000000000000000000001\n");
-    jump("127").exits(0).prints(b"80000000000000000000000000000000\n");
-    jump("128").exits(0).prints(b"00000000000000000000000000000087\n");
-    jump("4000").exits(0);
-    jump("4001").exits(4);
-    jump("4294967296").exits(4);
-    jump("99999999999999999999999").exits(4);
-    jump("-1").exits(64);
+    let one = "00000000000000000000000000000001";
+    let jump = |distance| folder.run(&["jump", "--mask", one, "--distance", distance]);
+    for (distance, printed) in [
+        ("0", one),
+        ("-0", one),
+        ("127", "80000000000000000000000000000000"),
+        ("128", "00000000000000000000000000000087"),
+        ("-1", "80000000000000000000000000000043"),
+        ("-001", "80000000000000000000000000000043"),
+    ] {
+        jump(distance).exits(0).prints(format!("{printed}\n").as_bytes());
+        let joined = format!("--distance={distance}");
+        folder.run(&["jump", &joined, "--mask", one]).exits(0).prints(format!("{printed}\n").as_bytes());
+    }
+    for distance in ["4000", "1234", "-1", "-4000"] {
+        let there = jump(distance).exits(0).text();
+        let opposite = (-distance.parse::<i32>().expect("a number")).to_string();
+        folder.run(&["jump", "--distance", &opposite, "--mask", there.trim()]).exits(0).prints(format!("{one}\n").as_bytes());
+    }
+}
+
+/// The numbers beyond 32 and 64 bits would be small ones if their upper bits were lost.
+#[test]
+fn masks_jump_no_further_than_the_limit() {
+    let folder = Folder::new("far");
+    for number in ["4001", "2147483647", "2147483648", "4294967297", "18446744073709551617", "99999999999999999999999"] {
+        for distance in [number.to_string(), format!("-{number}")] {
+            folder.run(&["jump", "--mask", IV, "--distance", &distance]).exits(4).prints(b"");
+        }
+    }
+}
+
+/// Text that is no number in digits, or has another sign than a hyphen.
+#[test]
+fn a_distance_is_a_number() {
+    let folder = Folder::new("distance");
+    for distance in ["", "-", "--", "--5", "- 5", "-5-", "+5", "-+5", "5.0", "-4,000", "0x5", "\u{2212}5", "\u{2013}5", "\u{665}"]
+    {
+        for arguments in [&["--distance", distance][..], &[&format!("--distance={distance}")]] {
+            let line = [&["jump", "--mask", IV][..], arguments].concat();
+            folder.run(&line).exits(64).tells("must be a whole number in digits").prints(b"");
+        }
+    }
 }
 
 #[test]
@@ -240,5 +274,7 @@ fn the_demonstration_goes_well() {
     let folder = Folder::new("demo");
     let told = String::from_utf8(folder.run(&["demo"]).exits(0).stdout).expect("text");
     assert!(told.contains("refused with 6") && told.contains("refused with 8"));
-    assert!(told.trim_end().ends_with("6 of 6 checks as they should be.") && !told.contains("WRONG"));
+    assert!(told.trim_end().ends_with("8 of 8 checks as they should be.") && !told.contains("WRONG"));
+    let readme = std::fs::read_to_string(concat!(env!("CARGO_MANIFEST_DIR"), "/../README.md")).expect("the page");
+    assert!(readme.contains(&format!("```text\n{told}```")), "README does not have what the demonstration prints");
 }

@@ -32,6 +32,7 @@ fn bash_completes_commands_options_and_files() {
     assert_eq!(offered(&folder, "balzenoh open li"), ["list", "list.sealed"]);
     assert_eq!(offered(&folder, "balzenoh open -o li"), ["list", "list.sealed"]);
     assert_eq!(offered(&folder, "balzenoh seal --runs l"), Vec::<String>::new());
+    assert_eq!(offered(&folder, "balzenoh jump --distance -"), Vec::<String>::new());
     assert_eq!(offered(&folder, "balzenoh completions "), ["bash", "zsh"]);
     assert_eq!(offered(&folder, "balzenoh help op"), ["open"]);
 }

@@ -31,8 +31,13 @@ fn a_refusal_says_which_value_is_wrong() {
         ("check-run --key $K --iv $I --first 0 run", "refusal 3: run has 20 bytes, and a run of ciphertext has a multiple of 16"),
         ("seal-run --key $K --iv $I --first 3999 --last run", "refusal 4: run has 2 blocks and --first is 3999"),
         ("seal-run --key $K --iv $I --first 99999999999 --last run", "--first is 99999999999"),
-        ("jump --mask $I --distance 4001", "refusal 4: --distance is 4001, and a mask jumps by 0 to 4,000 blocks"),
-        ("jump --mask $I --distance 4294967296", "refusal 4: --distance is 4294967296"),
+        ("jump --mask $I --distance 4001", "refusal 4: --distance is 4001, and a mask jumps by -4,000 to 4,000 blocks."),
+        ("jump --mask $I --distance -4001", "refusal 4: --distance is -4001, and a mask jumps by -4,000 to 4,000 blocks."),
+        ("jump --mask $I --distance=-2147483648", "refusal 4: --distance is -2147483648, and a mask jumps"),
+        ("jump --mask $I --distance 4294967296", "refusal 4: --distance is 4294967296, and a mask jumps"),
+        ("jump --mask $I --distance -9223372036854775808", "refusal 4: --distance is -9223372036854775808, and"),
+        ("jump --mask $I --distance -99999999999999999999", "refusal 4: --distance has 21 characters, and a mask jumps"),
+        ("jump --mask 00 --distance -4001", "refusal 3: --mask has 1 byte, and a mask has 16"),
         ("jump --mask 00 --distance 1", "refusal 3: --mask has 1 byte, and a mask has 16"),
         ("test --key $K --iv $I --tag 0000 $I$I", "refusal 24: RECORD has 32 bytes, and a record has 24"),
         ("test --key $K --iv $I --tag 0000 0000000000000001$I", "refusal 3: --tag has 2 bytes, and a tag has 16"),
@@ -57,9 +62,22 @@ fn a_wrong_command_line_says_what_is_wrong_with_it() {
         ("seal --key $K --iv $I --output=", "--output needs the name of a file, and has an empty one"),
         ("seal --key $K --iv $I ''", "the name of the input is empty"),
         ("seal --key @ --iv $I", "--key has no name after the @"),
-        ("jump --mask $I --distance -1", "--distance is -1, and must be a whole number from 0 on"),
-        ("jump --mask $I --distance 1.5", "--distance is 1.5, and must be a whole number from 0 on"),
-        ("jump --mask $I --distance ''", "--distance is empty, and must be a whole number from 0 on"),
+        (
+            "jump --mask $I --distance 1.5",
+            "--distance is 1.5, and must be a whole number in digits, with a hyphen (-) before them where it is negative.",
+        ),
+        ("jump --mask $I --distance +5", "--distance is +5, and must be a whole number in digits"),
+        ("jump --mask $I --distance=--5", "--distance is --5, and must be a whole number in digits"),
+        ("jump --mask $I --distance -", "--distance is -, and must be a whole number in digits"),
+        ("jump --mask $I --distance \u{2212}5", "--distance is \u{2212}5, and must be a whole number in digits"),
+        ("jump --mask $I --distance ''", "--distance is empty, and must be a whole number in digits"),
+        ("jump --distance --mask $I", "--distance is --mask, and must be a whole number in digits"),
+        ("jump --mask $I --distance", "--distance needs a value"),
+        ("jump --mask $I --distance -1 --distance -1", "--distance is given twice"),
+        ("jump --mask $I -5", "one of the arguments is no option of this command"),
+        ("seal-run --key $K --iv $I --first -1", "--first is -1, and must be a whole number from 0 on"),
+        ("seal-run --key $K --iv $I --first=1.5", "--first is 1.5, and must be a whole number from 0 on"),
+        ("seal-run --key $K --iv $I --first ''", "--first is empty, and must be a whole number from 0 on"),
         ("seal --key $K --iv $I --threads 257", "--threads is 257, and must be a whole number from 1 to 256"),
         ("seal --key $K --iv $I --runs 0", "--runs is 0, and must be a whole number from 1 on"),
         ("seal --iv $I", "--key is missing"),
@@ -88,8 +106,10 @@ fn no_key_is_repeated() {
         let told = folder.shell(&format!("$B seal-run --iv $I {line}")).exits(64);
         assert!(!told.stderr.contains(&KEY[4..12]), "{}", told.stderr);
     }
-    let told = folder.shell("$B $K").exits(64);
-    assert!(!told.stderr.contains(&KEY[4..12]), "{}", told.stderr);
+    for line in ["$K", "jump --mask $I --distance $K", "jump --mask $I --distance=-$K"] {
+        let told = folder.shell(&format!("$B {line}")).exits(64);
+        assert!(!told.stderr.contains(&KEY[4..12]), "{}", told.stderr);
+    }
 }
 
 #[test]

@@ -11,7 +11,7 @@ pub enum Call<'a> {
     JoinList { records: &'a [u8], record_room: usize },
     Close { key: &'a [u8], iv: &'a [u8], record: &'a [u8], room: usize },
     Test { key: &'a [u8], iv: &'a [u8], record: &'a [u8], tag: &'a [u8] },
-    Jump { mask: &'a [u8], distance: u32, room: usize },
+    Jump { mask: &'a [u8], distance: i32, room: usize },
 }
 
 /// The functions' names, in the order of `Call::function`.

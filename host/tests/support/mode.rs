@@ -12,6 +12,21 @@ pub fn times_x_power(block: u128, power: u32) -> u128 {
     (0..power).fold(block, |block, _| times_x(block))
 }
 
+/// Divides by the variable: where the low bit is set the polynomial is added first, then comes a shift to the right. Of the
+/// polynomial, 87 is within the block; the 128th power is above it, and comes in at the top with the shift.
+pub fn divided_by_x(block: u128) -> u128 {
+    if block & 1 == 1 {
+        (block ^ 0x87) >> 1 | 1 << 127
+    } else {
+        block >> 1
+    }
+}
+
+/// Divides by the variable as often as that.
+pub fn divided_by_x_power(block: u128, power: u32) -> u128 {
+    (0..power).fold(block, |block, _| divided_by_x(block))
+}
+
 /// The mode under one key and IV.
 pub struct Mode<C> {
     pub cipher: C,

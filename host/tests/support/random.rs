@@ -78,4 +78,20 @@ impl Random {
             _ => self.pick(&EDGES),
         }
     }
+
+    /// A signed 32-bit number: often at one of the edges, either side of zero, sometimes any.
+    pub fn signed_edge(&mut self) -> i32 {
+        const EDGES: [i32; 9] = [0, 1, 127, 128, 3_999, 4_000, 4_001, i32::MAX - 3_999, i32::MAX];
+        let number = match self.below(8) {
+            0 => return self.next() as i32,
+            1 | 2 => self.below(4_002) as i32,
+            _ => self.pick(&EDGES),
+        };
+        // Less one, the most negative number is among them.
+        match self.below(4) {
+            0 => -number - 1,
+            1 => -number,
+            _ => number,
+        }
+    }
 }

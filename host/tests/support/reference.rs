@@ -2,7 +2,7 @@
 
 use super::call::{Answer, Call};
 use super::cipher::Cipher;
-use super::mode::{number, padded, times_x_power, unpadded, Mode};
+use super::mode::{divided_by_x_power, number, padded, times_x_power, unpadded, Mode};
 
 const LIMIT: u64 = 4_000;
 const LONGEST_MESSAGE: usize = 63_999;
@@ -198,7 +198,9 @@ fn whole_rows(record: Record) -> [(u8, bool); 2] {
     [(4, record.end() > LIMIT), (9, record.first != 0 || record.count == 0)]
 }
 
-fn jump(mask: &[u8], distance: u32, room: usize) -> Outcome {
-    rows(&[(3, mask.len() != 16), (4, u64::from(distance) > LIMIT), (5, room < 16)])?;
-    Ok(Given { out: times_x_power(number(mask), distance).to_be_bytes().to_vec(), ..Given::default() })
+fn jump(mask: &[u8], distance: i32, room: usize) -> Outcome {
+    rows(&[(3, mask.len() != 16), (4, !(-4_000..=4_000).contains(&distance)), (5, room < 16)])?;
+    let steps = if distance < 0 { divided_by_x_power } else { times_x_power };
+    let jumped = steps(number(mask), distance.unsigned_abs());
+    Ok(Given { out: jumped.to_be_bytes().to_vec(), ..Given::default() })
 }
