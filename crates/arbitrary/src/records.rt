@@ -3,18 +3,11 @@ use mode::RecordAnswer;
 use mode::RunRecord;
 ghost use mathlib.Core.Path.{_≡_};
 ghost use Rattle.mode.specs.Calls.{joinTwo, joinList, recordAnswerOf};
-ghost use Rattle.record_list.specs.Onto.{ontoOf};
 
 pub fn join(left: RunRecord, right: RunRecord) -> RecordAnswer
     ensures { λ a. ⌜ a ≡ recordAnswerOf (joinTwo left right) ⌝ }
 {
     left.join(right)
-}
-
-pub fn onto(so_far: RecordAnswer, next: RunRecord) -> RecordAnswer
-    ensures { λ a. ⌜ a ≡ ontoOf «so_far» next ⌝ }
-{
-    record_list::onto(so_far, next)
 }
 
 pub fn join_list(records: &[RunRecord]) -> RecordAnswer

@@ -1,44 +1,32 @@
--- A list of records in bytes, one record after the other.
-use mathlib.Core.Path.{_≡_, sym, ap, _∙_}
+-- A list of records in bytes, one record after the other: its length, and its record i.
+use mathlib.Core.Path.{_≡_, refl, sym, ap, _∙_}
 use mathlib.Core.List.{List}
-use Prim.Native.Nat.{ℕ, suc, _+_, _*_, _-_, _<_, _≤_}
+use Prim.Native.Nat.{ℕ, zero, suc, _+_, _*_, _/_, _<_}
 use native.Mathlib.Omega.{arith}
-use lib.ListN.{take, drop}
+use lib.ListN.{length, getD, take, drop}
 use lib.Seq.{drop-drop}
 use Rattle.mode.specs.declared.RunRecord.{RunRecord}
-use Rattle.mode.specs.declared.RecordAnswer.{RecordAnswer}
-use Rattle.mode.specs.Calls.{refusedRecord}
-use Rattle.record_list.specs.Onto.{ontoOf, ontoAll}
-use Rattle.balzenoh.specs.Encoding.{decoded, firstRecords}
+use Rattle.balzenoh.specs.Encoding.{decoded, firstRecords, recordsOf}
 
--- the answer so far, after i of n records: what is left to join onto it is what there was to join
-pub record Joining (b : List ℕ) (n i : ℕ) (answer : RecordAnswer) : Type 0 where
-  pub count : i ≤ n
-  pub left : ontoAll answer (firstRecords (n - i) (drop (i * 24) b)) ≡ ontoAll (refusedRecord 9) (firstRecords n b)
+length-first : (n : ℕ) (b : List ℕ) → length (firstRecords n b) ≡ n
+unfolding firstRecords
+length-first zero b = refl
+length-first (suc n) b = ap suc (length-first n (drop 24 b))
 
-module _ (b : List ℕ) (n : ℕ) where
-  pub begins : (answer : RecordAnswer) → answer ≡ refusedRecord 9 → Joining b n 0 answer
-  begins answer e =
-      record {
-        count = omega arith;
-        left = ap (λ (a : RecordAnswer). ontoAll a (firstRecords (n - 0) b)) e ∙ ap (λ (k : ℕ). ontoAll (refusedRecord 9) (firstRecords k b)) (let e : n - 0 ≡ n = omega arith in e);
-      }
+first-at : (n i : ℕ) (b : List ℕ) (d : RunRecord) → i < n → getD (firstRecords n b) i d ≡ decoded (take 24 (drop (i * 24) b))
+unfolding firstRecords
+first-at zero i b d h = absurd (omega arith)
+first-at (suc n) zero b d h = refl
+first-at (suc n) (suc i) b d h =
+    let k : i < n = omega arith in
+    let e : 24 + i * 24 ≡ suc i * 24 = omega arith in
+    first-at n i (drop 24 b) d k ∙ ap (λ (x : List ℕ). decoded (take 24 x)) (drop-drop (i * 24) 24 b ∙ ap (λ (m : ℕ). drop m b) e)
 
-  module _ (i : ℕ) (answer : RecordAnswer) (now : Joining b n i answer) where
-    pub turn : (r : RunRecord) (next : RecordAnswer) → i < n → r ≡ decoded (take 24 (drop (i * 24) b)) → next ≡ ontoOf answer r → Joining b n (i + 1) next
-    unfolding ontoAll firstRecords
-    turn r next l er en =
-        let e : (i + 1) * 24 ≡ i * 24 + 24 = omega arith in
-        let k : n - i ≡ suc (n - (i + 1)) = omega arith in
-        record {
-          count = omega arith;
-          left =
-              ap (λ (x : List ℕ). ontoAll next (firstRecords (n - (i + 1)) x)) (ap (λ (k : ℕ). drop k b) e ∙ sym (drop-drop 24 (i * 24) b))
-              ∙ ap (λ (a : RecordAnswer). ontoAll a (firstRecords (n - (i + 1)) (drop 24 (drop (i * 24) b)))) (en ∙ ap (ontoOf answer) er)
-              ∙ ap (λ (k : ℕ). ontoAll answer (firstRecords k (drop (i * 24) b))) (sym k)
-              ∙ now .left;
-        }
+module _ (b : List ℕ) where
+  pub length-records : length (recordsOf b) ≡ length b / 24
+  unfolding recordsOf
+  length-records = length-first (length b / 24) b
 
-    pub ends : n ≤ i → answer ≡ ontoAll (refusedRecord 9) (firstRecords n b)
-    unfolding ontoAll firstRecords
-    ends h = ap (λ (k : ℕ). ontoAll answer (firstRecords k (drop (i * 24) b))) (let e : 0 ≡ n - i = omega (arith, now .count) in e) ∙ now .left
+  pub record-is : (i : ℕ) (d : RunRecord) → i < length b / 24 → decoded (take 24 (drop (i * 24) b)) ≡ getD (recordsOf b) i d
+  unfolding recordsOf
+  record-is i d h = sym (first-at (length b / 24) i b d h)

@@ -1,10 +1,11 @@
 // Join two run records, join a list.
+use mode::KeptAnswer;
 use mode::RecordAnswer;
 use mode::RunRecord;
 ghost use mathlib.Core.Path.{_≡_};
 ghost use Prim.Native.Nat.{_+_, _*_, _≤_};
 ghost use lib.ListN.{length, take, drop};
-ghost use Rattle.mode.specs.Calls.{joinList, recordAnswerOf};
+ghost use Rattle.record_list.specs.Counted.{Counted};
 ghost use Rattle.balzenoh.specs.Encoding.{decoded, recordsOf};
 ghost use Rattle.balzenoh.specs.Exports.{Returned, lentRecord, joinBytes, joinListBytes};
 
@@ -41,18 +42,18 @@ fn record_at(records: &[u8], i: usize) -> RunRecord
 }
 
 // The records one after the other, by the step of which the join of a list is the fold.
-fn join_records(records: &[u8]) -> RecordAnswer
-    ensures { λ a. ⌜ a ≡ recordAnswerOf (joinList (recordsOf (now (records .entry)))) ⌝ }
+fn join_records(records: &[u8]) -> KeptAnswer
+    ensures { λ a. ⌜ Counted (recordsOf (now (records .entry))) a ⌝ }
 {
-    let mut answer = mode::refused(9);
+    let mut so_far = record_list::start();
     let mut i: usize = 0;
     let count = records.len() / 24;
     while i < count {
         let next = record_at(records, i);
-        answer = record_list::onto(answer, next);
+        so_far = record_list::onto(so_far, next);
         i += 1;
     }
-    answer
+    so_far
 }
 
 fn join_bytes(records: &[u8]) -> RecordAnswer
@@ -61,7 +62,8 @@ fn join_bytes(records: &[u8]) -> RecordAnswer
     if records.len() % 24 != 0 {
         return mode::refused(24);
     }
-    join_records(records)
+    let counted = join_records(records);
+    counted.answer
 }
 
 // JOIN A LIST.

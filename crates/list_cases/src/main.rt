@@ -5,7 +5,7 @@ use case_tools::bytes::one_if;
 use case_tools::bytes::refuses;
 use case_tools::hex::block;
 use case_tools::report;
-use mode::RecordAnswer;
+use mode::KeptAnswer;
 use mode::RunRecord;
 ghost use Prim.Native.Nat.{_≤_};
 
@@ -22,62 +22,92 @@ fn run(first: u32, count: u32, byte: u8) -> RunRecord {
     record(first, count, [byte; 16])
 }
 
-// ---- lists, from the answer of the empty one
+// ---- lists, by the step of which the join of a list is the fold
 
-fn list1(a: RunRecord) -> RecordAnswer {
-    let none = mode::refused(9);
-    record_list::onto(none, a)
-}
-
-fn list2(a: RunRecord, b: RunRecord) -> RecordAnswer {
-    let one = list1(a);
-    record_list::onto(one, b)
-}
-
-fn list3(a: RunRecord, b: RunRecord, c: RunRecord) -> RecordAnswer {
-    let two = list2(a, b);
-    record_list::onto(two, c)
-}
-
-// ---- what is compared
-
-// A list gives a record.
-fn gives(list: RecordAnswer, all: RunRecord) -> usize
-    ensures { λ n. ⌜ n ≤ 1 ⌝ }
+// The first n of four records.
+fn list(records: [RunRecord; 4], n: usize) -> KeptAnswer
+    requires { ⌜ n ≤ 4 ⌝ }
 {
-    one_if(gives_record(list, all))
+    let mut so_far = record_list::start();
+    let mut i: usize = 0;
+    while i < n {
+        let next = records[i];
+        so_far = record_list::onto(so_far, next);
+        i += 1;
+    }
+    so_far
 }
 
-// Lists of one, two and three records, by first block and block count, get a refusal, and no record stands beside it.
-fn one_gets(first: u32, count: u32, refusal: u8) -> usize
-    ensures { λ n. ⌜ n ≤ 1 ⌝ }
-{
-    one_if(refuses(list1(run(first, count, 1)), refusal))
+fn list1(a: RunRecord) -> KeptAnswer {
+    list([a, a, a, a], 1)
 }
 
-fn two_get(first: u32, count: u32, first2: u32, count2: u32, refusal: u8) -> usize
-    ensures { λ n. ⌜ n ≤ 1 ⌝ }
-{
-    one_if(refuses(list2(run(first, count, 1), run(first2, count2, 2)), refusal))
+fn list2(a: RunRecord, b: RunRecord) -> KeptAnswer {
+    list([a, b, b, b], 2)
 }
 
-fn three_get(
+fn list3(a: RunRecord, b: RunRecord, c: RunRecord) -> KeptAnswer {
+    list([a, b, c, c], 3)
+}
+
+// Lists of one to four records, by first block and block count.
+fn of1(first: u32, count: u32) -> KeptAnswer {
+    list1(run(first, count, 1))
+}
+
+fn of2(first: u32, count: u32, first2: u32, count2: u32) -> KeptAnswer {
+    list2(run(first, count, 1), run(first2, count2, 2))
+}
+
+fn of3(first: u32, count: u32, first2: u32, count2: u32, first3: u32, count3: u32) -> KeptAnswer {
+    list3(
+        run(first, count, 1),
+        run(first2, count2, 2),
+        run(first3, count3, 3),
+    )
+}
+
+fn of4(
     first: u32,
     count: u32,
     first2: u32,
     count2: u32,
     first3: u32,
     count3: u32,
-    refusal: u8,
-) -> usize
+    first4: u32,
+    count4: u32,
+) -> KeptAnswer {
+    let a = run(first, count, 1);
+    let b = run(first2, count2, 2);
+    let c = run(first3, count3, 3);
+    let d = run(first4, count4, 4);
+    list([a, b, c, d], 4)
+}
+
+// ---- what is compared
+
+// A list gives a record.
+fn gives(list: KeptAnswer, all: RunRecord) -> usize
     ensures { λ n. ⌜ n ≤ 1 ⌝ }
 {
-    let list = list3(
-        run(first, count, 1),
-        run(first2, count2, 2),
-        run(first3, count3, 3),
-    );
-    one_if(refuses(list, refusal))
+    let answer = list.answer;
+    one_if(gives_record(answer, all))
+}
+
+// It gets a refusal, and no record stands beside it.
+fn gets(list: KeptAnswer, refusal: u8) -> usize
+    ensures { λ n. ⌜ n ≤ 1 ⌝ }
+{
+    let answer = list.answer;
+    one_if(refuses(answer, refusal))
+}
+
+// So many powers of x were worked out for it.
+fn takes(list: KeptAnswer, powers: u64) -> usize
+    ensures { λ n. ⌜ n ≤ 1 ⌝ }
+{
+    let last = list.last;
+    one_if(last.total == powers)
 }
 
 // ---- the groups
@@ -109,32 +139,79 @@ fn empty_runs() -> usize {
         + gives(list2(short, run(8, 0, 0)), short)
 }
 
-// 8: a gap, an overlap, the wrong order, a gap behind a good pair; a gap before a record that adjoins the one behind the gap, and before
-// one that starts at block 0, as a blank record does.
+// 8 of a pair: a gap, an overlap, the wrong order.
+fn pair_apart() -> usize
+    ensures { λ n. ⌜ n ≤ 3 ⌝ }
+{
+    gets(of2(0, 1, 2, 1), 8) + gets(of2(0, 2, 1, 2), 8) + gets(of2(1, 1, 0, 1), 8)
+}
+
+// 8: of a pair; a gap behind a good pair; a gap before a record that adjoins the one behind the gap, and before one that starts at block 0,
+// as a blank record does.
 fn apart() -> usize {
-    two_get(0, 1, 2, 1, 8)
-        + two_get(0, 2, 1, 2, 8)
-        + two_get(1, 1, 0, 1, 8)
-        + three_get(0, 1, 1, 1, 3, 1, 8)
-        + three_get(0, 1, 2, 1, 3, 1, 8)
-        + three_get(0, 1, 2, 1, 0, 1, 8)
+    pair_apart()
+        + gets(of3(0, 1, 1, 1, 3, 1), 8)
+        + gets(of3(0, 1, 2, 1, 3, 1), 8)
+        + gets(of3(0, 1, 2, 1, 0, 1), 8)
 }
 
 // 4: alone; an empty run at 4,001; behind a gap, which 4 beats; numbers whose sum leaves 32 bits.
 fn beyond() -> usize {
-    one_gets(1, 4000, 4)
-        + one_gets(4001, 0, 4)
-        + three_get(0, 1, 5, 1, 4000, 1, 4)
-        + two_get(0, 1, 4294967295, 1, 4)
+    gets(of1(1, 4000), 4)
+        + gets(of1(4001, 0), 4)
+        + gets(of3(0, 1, 5, 1, 4000, 1), 4)
+        + gets(of2(0, 1, 4294967295, 1), 4)
 }
 
 // 4 stands, whatever follows: a record that adjoins none; one that starts at block 0, as a blank record does; one that adjoins the
 // record before the one beyond the limit; one that is beyond the limit itself.
 fn beyond_before() -> usize {
-    two_get(1, 4000, 5, 1, 4)
-        + two_get(1, 4000, 0, 1, 4)
-        + three_get(0, 1, 4000, 1, 1, 1, 4)
-        + three_get(0, 1, 4000, 1, 4001, 0, 4)
+    gets(of2(1, 4000, 5, 1), 4)
+        + gets(of2(1, 4000, 0, 1), 4)
+        + gets(of3(0, 1, 4000, 1, 1, 1), 4)
+        + gets(of3(0, 1, 4000, 1, 4001, 0), 4)
+}
+
+// A power that is used again: right records of one count, of one count behind another, of two counts in turn, and behind one of no block.
+// The values are those of vectors/make-mode-vectors.
+fn kept() -> usize {
+    let equal = record(0, 4000, block(b"26D2593BF953FA57D5098F0882820415"));
+    let behind = record(0, 10, block(b"9E9E9E9E9E9E9E9E9E9E9E9E9E9E9F92"));
+    let in_turn = record(0, 3000, block(b"8D533AD7CA5E040482838F8F9E430842"));
+    let empty = record(0, 11, block(b"DCDCDCDCDCDCDCDCDCDCDCDCDCDCDCDC"));
+    gives(of4(0, 1000, 1000, 1000, 2000, 1000, 3000, 1000), equal)
+        + gives(of4(0, 1, 1, 3, 4, 3, 7, 3), behind)
+        + gives(of4(0, 1000, 1000, 500, 1500, 1000, 2500, 500), in_turn)
+        + gives(of4(0, 5, 5, 0, 5, 3, 8, 3), empty)
+}
+
+// Powers of x worked out, as ticket P2 counts them: a list of one; a right record, and one of no block; right records of equal counts, the
+// second one of no block too.
+fn powers() -> usize {
+    takes(of1(0, 3), 0)
+        + takes(of2(0, 3, 3, 3), 1)
+        + takes(of2(0, 3, 3, 0), 1)
+        + takes(of3(0, 3, 3, 2, 5, 2), 1)
+        + takes(of3(0, 3, 3, 0, 3, 0), 1)
+}
+
+// Right records of which the second has another count; the last two; both; one of no block behind a count, and before it.
+fn powers_anew() -> usize {
+    takes(of3(0, 3, 3, 3, 6, 2), 2)
+        + takes(of4(0, 1, 1, 2, 3, 1, 4, 1), 2)
+        + takes(of4(0, 1, 1, 2, 3, 1, 4, 2), 3)
+        + takes(of3(0, 1, 1, 1, 2, 0), 2)
+        + takes(of4(0, 1, 1, 0, 1, 2, 3, 2), 2)
+}
+
+// Of a list that is refused, those of the records joined before: a gap behind the first record, and behind the second; records behind a
+// gap; a record beyond the limit behind the second, and the first one.
+fn powers_refused() -> usize {
+    takes(of2(0, 1, 2, 1), 0)
+        + takes(of3(0, 1, 1, 1, 3, 2), 1)
+        + takes(of4(0, 1, 2, 1, 3, 2, 5, 1), 0)
+        + takes(of4(0, 1, 1, 1, 4000, 1, 2, 2), 1)
+        + takes(of3(4000, 1, 0, 1, 1, 1), 0)
 }
 
 fn main() {
@@ -143,4 +220,12 @@ fn main() {
     report(b"refusal 8 of a list", apart(), 6);
     report(b"refusal 4 of a list", beyond(), 4);
     report(b"refusal 4 of an earlier record", beyond_before(), 4);
+    report(b"lists with a power kept", kept(), 4);
+    report(b"powers for right records of one count", powers(), 5);
+    report(
+        b"powers for right records of several counts",
+        powers_anew(),
+        5,
+    );
+    report(b"powers for a list that is refused", powers_refused(), 5);
 }

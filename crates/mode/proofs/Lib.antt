@@ -13,6 +13,7 @@ pub mod Runs
 pub mod SealedLength
 pub mod Segments
 pub mod Join
+pub mod Powers
 pub mod Records
 pub mod Demand2
 pub mod Demand3

@@ -3,7 +3,9 @@
 // here is the join of two run records.
 ghost use mathlib.Core.Path.{_≡_};
 ghost use Prim.Native.Nat.{_+_};
-ghost use Rattle.mode.specs.Calls.{joinTwo, recordAnswerOf, refusedRecord};
+ghost use Rattle.mode.specs.Table.{firstRow};
+ghost use Rattle.mode.specs.Calls.{joined, joinTwo, joinTwoRows, recordAnswerOf, refusedRecord};
+ghost use Rattle.mode.specs.Powers.{noPower, Keeps, workedOut, powerFor, Joinable, joinKeeping};
 
 // The most blocks that a list may have.
 pub const LIMIT: u64 = 4000;
@@ -45,6 +47,62 @@ pub struct TagAnswer {
     pub tag: [u8; 16],
 }
 
+// The last power of x that joining worked out: x^count, once `some` is set. `total` says how many were worked out.
+pub struct LastPower {
+    pub some: bool,
+    pub count: u32,
+    pub power: [u8; 16],
+    pub total: u64,
+}
+
+// The answer of a join, and the power of x that is kept for the next one.
+pub struct KeptAnswer {
+    pub answer: RecordAnswer,
+    pub last: LastPower,
+}
+
+impl LastPower {
+    // Before the first join. Nothing is kept that could pass for x^0.
+    pub fn none() -> LastPower
+        ensures { λ k. ⌜ k ≡ noPower ⌝ }
+    {
+        LastPower {
+            some: false,
+            count: 0,
+            power: [0u8; 16],
+            total: 0,
+        }
+    }
+
+    // x^count, worked out and counted, is kept in the place of the one before.
+    fn work_out(self, count: u32) -> LastPower
+        requires { ⌜ Keeps self ⌝ }
+        ensures { λ k. ⌜ k ≡ workedOut self count ⌝ }
+    {
+        let power = blocks::gf128::power(count, false);
+        LastPower {
+            some: true,
+            count,
+            power,
+            total: self.total + 1,
+        }
+    }
+
+    // x^count: the one that is kept, where it has that count, or worked out.
+    fn for_count(self, count: u32) -> LastPower
+        requires { ⌜ Keeps self ⌝ }
+        ensures { λ k. ⌜ k ≡ powerFor self count ⌝ }
+    {
+        if !self.some {
+            return self.work_out(count);
+        }
+        if self.count != count {
+            return self.work_out(count);
+        }
+        self
+    }
+}
+
 impl RunRecord {
     // The number of the block after the run's last, at 64 bits: a caller may hand in any two numbers.
     fn end(self) -> u64
@@ -53,33 +111,64 @@ impl RunRecord {
         self.first as u64 + self.count as u64
     }
 
-    // The record of this run and its right neighbour, or a refusal: 4 where either is beyond the limit, 8 where they do not adjoin.
-    pub fn join(self, right: RunRecord) -> RecordAnswer
-        ensures { λ a. ⌜ a ≡ recordAnswerOf (joinTwo self right) ⌝ }
+    // The first row of the table that holds of this run and its right neighbour, or 0: 4 where either is beyond the limit, 8 where they
+    // do not adjoin.
+    fn join_refusal(self, right: RunRecord) -> u8
+        ensures { λ n. ⌜ n ≡ firstRow (joinTwoRows self right) ⌝ }
     {
         let left_end = self.end();
         let right_end = right.end();
         if LIMIT < left_end {
-            return refused(4);
+            return 4;
         }
         if LIMIT < right_end {
-            return refused(4);
+            return 4;
         }
         if left_end != right.first as u64 {
-            return refused(8);
+            return 8;
         }
+        0
+    }
+
+    // The record of this run and its right neighbour, with x to the neighbour's count handed in.
+    fn join_by(self, right: RunRecord, power: [u8; 16]) -> RunRecord
+        requires { ⌜ Joinable self right power ⌝ }
+        ensures { λ r. ⌜ r ≡ joined self right ⌝ }
+    {
         let left = self.preauthenticator;
-        let moved = blocks::gf128::jump(left, right.count);
+        let moved = blocks::gf128::multiply(power, left);
         let added = right.preauthenticator;
         let preauthenticator = blocks::block::xor(moved, added);
-        RecordAnswer {
-            refusal: 0,
-            run: RunRecord {
-                first: self.first,
-                count: self.count + right.count,
-                preauthenticator,
-            },
+        RunRecord {
+            first: self.first,
+            count: self.count + right.count,
+            preauthenticator,
         }
+    }
+
+    // The join with a kept power of x handed in. A refusal works out no power, and keeps the one there was.
+    pub fn join_keeping(self, right: RunRecord, last: LastPower) -> KeptAnswer
+        requires { ⌜ Keeps last ⌝ }
+        ensures { λ a. ⌜ a ≡ joinKeeping self right last ⌝ }
+    {
+        let refusal = self.join_refusal(right);
+        if refusal != 0 {
+            let answer = refused(refusal);
+            return KeptAnswer { answer, last };
+        }
+        let kept = last.for_count(right.count);
+        let power = kept.power;
+        let run = self.join_by(right, power);
+        let answer = RecordAnswer { refusal: 0, run };
+        KeptAnswer { answer, last: kept }
+    }
+
+    // The record of this run and its right neighbour, or a refusal.
+    pub fn join(self, right: RunRecord) -> RecordAnswer
+        ensures { λ a. ⌜ a ≡ recordAnswerOf (joinTwo self right) ⌝ }
+    {
+        let joined = self.join_keeping(right, LastPower::none());
+        joined.answer
     }
 }
 

@@ -1,24 +1,31 @@
 -- One record more, case by case, as the code decides it.
 use mathlib.Core.Path.{_≡_}
+use Prim.Native.Nat.{ℕ}
 use borrow.Author.Tests.{eq-eqb, ne-eqb}
 use Rattle.mode.specs.declared.RunRecord.{RunRecord}
-use Rattle.mode.specs.declared.RecordAnswer.{RecordAnswer}
-use Rattle.mode.specs.Calls.{joinTwo, recordAnswerOf, refusedRecord}
-use Rattle.record_list.specs.Onto.{ontoOf, unlessBeyond, alone}
+use Rattle.mode.specs.declared.KeptAnswer.{KeptAnswer}
+use Rattle.mode.specs.Calls.{refusedRecord}
+use Rattle.mode.specs.Powers.{joinKeeping}
+use Rattle.record_list.specs.Onto.{kept, ontoOf, unjoined, unlessBeyond, alone}
 
-module _ (a : RecordAnswer) (r : RunRecord) where
-  pub onto-given : a .refusal ≡ 0 → ontoOf a r ≡ recordAnswerOf (joinTwo (a .run) r)
-  unfolding ontoOf
-  onto-given e = rw (eq-eqb (a .refusal) 0 e)
+module _ (n : ℕ) (r : RunRecord) where
+  pub unjoined-apart : n ≡ 8 → unjoined n r ≡ unlessBeyond r (refusedRecord 8)
+  unfolding unjoined
+  unjoined-apart e = rw e
 
-  pub onto-apart : a .refusal ≡ 8 → ontoOf a r ≡ unlessBeyond r (refusedRecord 8)
-  unfolding ontoOf
-  onto-apart e = rw e
+  pub unjoined-none : n ≡ 9 → unjoined n r ≡ unlessBeyond r (alone r)
+  unfolding unjoined
+  unjoined-none e = rw e
 
-  pub onto-none : a .refusal ≡ 9 → ontoOf a r ≡ unlessBeyond r (alone r)
-  unfolding ontoOf
-  onto-none e = rw e
+  pub unjoined-stands : (n ≡ 8 → ⊥) → (n ≡ 9 → ⊥) → unjoined n r ≡ refusedRecord n
+  unfolding unjoined
+  unjoined-stands u v = rw (ne-eqb n 8 u, ne-eqb n 9 v)
 
-  pub onto-stands : (a .refusal ≡ 0 → ⊥) → (a .refusal ≡ 8 → ⊥) → (a .refusal ≡ 9 → ⊥) → ontoOf a r ≡ refusedRecord (a .refusal)
+module _ (s : KeptAnswer) (r : RunRecord) where
+  pub onto-given : s .answer .refusal ≡ 0 → ontoOf s r ≡ joinKeeping (s .answer .run) r (s .last)
   unfolding ontoOf
-  onto-stands g u v = rw (ne-eqb (a .refusal) 0 g, ne-eqb (a .refusal) 8 u, ne-eqb (a .refusal) 9 v)
+  onto-given e = rw (eq-eqb (s .answer .refusal) 0 e)
+
+  pub onto-refused : (s .answer .refusal ≡ 0 → ⊥) → ontoOf s r ≡ kept (unjoined (s .answer .refusal) r) (s .last)
+  unfolding ontoOf
+  onto-refused g = rw (ne-eqb (s .answer .refusal) 0 g)

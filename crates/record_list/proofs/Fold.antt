@@ -1,38 +1,48 @@
 -- The records of a list in turn give the answer to the list: the definition decides its rows over the whole list, and here they are
--- decided a record at a time.
-use mathlib.Core.Path.{_≡_, refl, ap, _∙_}
+-- decided a record at a time. Beside the answer goes the power that is kept: that of the records joined so far.
+use mathlib.Core.Path.{_≡_, refl, ap, ap₂, _∙_}
 use mathlib.Core.Bool.{Bool, true, false, cond, not, _||_}
 use mathlib.Core.List.{List, [], _∷_}
-use Prim.Native.Nat.{ℕ, _+_, _<_, _≤_}
+use Prim.Native.Nat.{_+_, _≤_}
 use native.Mathlib.Omega.{arith}
-use native.Mathlib.Numerals.{add-one}
-use lib.ListN.{length, getD, drop, drop-of-length-le}
-use lib.Seq.{drop-cons}
 use lib.Dec.{eqb, ltb}
 use borrow.Author.Tests.{le-ltb, ltb-false, eqb-true}
 use Rattle.mode.specs.declared.RunRecord.{RunRecord}
 use Rattle.mode.specs.declared.RecordAnswer.{RecordAnswer}
+use Rattle.mode.specs.declared.LastPower.{LastPower}
 use Rattle.mode.specs.Table.{decide, limit, beyond, anyBeyond, apart, none}
 use Rattle.mode.specs.Calls.{joined, joinedOnto, joinedAll, joinTwo, joinList, number, orElse, recordAnswerOf, refusedRecord}
-use Rattle.record_list.specs.Onto.{alone, unlessBeyond, ontoOf, ontoAll}
+use Rattle.mode.specs.Powers.{noPower, powerFor, keptAfter, joinKeeping}
+use Rattle.record_list.specs.Onto.{kept, started, alone, unlessBeyond, unjoined, ontoOf, ontoAll}
+use Rattle.record_list.specs.Counted.{following, joinedFront}
+
+-- the power that is kept after right records, from the one before
+unfoldable pub lastOf : LastPower → List RunRecord → LastPower
+lastOf k [] = k
+lastOf k (r ∷ rs) = lastOf (powerFor k (r .count)) rs
+
+-- the right records of a list
+unfoldable pub rights : List RunRecord → List RunRecord
+rights [] = []
+rights (l ∷ rs) = rs
 
 -- ---- a list, by the answer before it
 
 -- 4 stands
-after-four : (rs : List RunRecord) → ontoAll (refusedRecord 4) rs ≡ refusedRecord 4
-unfolding ontoAll ontoOf
-after-four [] = refl
-after-four (r ∷ rs) = after-four rs
+after-four : (k : LastPower) (rs : List RunRecord) → ontoAll (kept (refusedRecord 4) k) rs ≡ kept (refusedRecord 4) k
+unfolding ontoAll ontoOf unjoined
+after-four k [] = refl
+after-four k (r ∷ rs) = after-four k rs
 
 -- 8 stands, unless a record is beyond the limit
-after-eight : (rs : List RunRecord) → ontoAll (refusedRecord 8) rs ≡ cond (anyBeyond rs) (refusedRecord 4) (refusedRecord 8)
-unfolding ontoAll ontoOf unlessBeyond anyBeyond
-after-eight [] = refl
-after-eight (r ∷ rs) = by (beyond (r .first) (r .count)) (after-eight rs)
+after-eight : (k : LastPower) (rs : List RunRecord) → ontoAll (kept (refusedRecord 8) k) rs ≡ kept (cond (anyBeyond rs) (refusedRecord 4) (refusedRecord 8)) k
+unfolding ontoAll ontoOf unjoined unlessBeyond anyBeyond
+after-eight k [] = refl
+after-eight k (r ∷ rs) = by (beyond (r .first) (r .count)) (after-eight k rs)
   where
-    by : (b : Bool) → ontoAll (refusedRecord 8) rs ≡ cond (anyBeyond rs) (refusedRecord 4) (refusedRecord 8)
-        → ontoAll (cond b (refusedRecord 4) (refusedRecord 8)) rs ≡ cond (b || anyBeyond rs) (refusedRecord 4) (refusedRecord 8)
-    by true others = after-four rs
+    by : (b : Bool) → ontoAll (kept (refusedRecord 8) k) rs ≡ kept (cond (anyBeyond rs) (refusedRecord 4) (refusedRecord 8)) k
+        → ontoAll (kept (cond b (refusedRecord 4) (refusedRecord 8)) k) rs ≡ kept (cond (b || anyBeyond rs) (refusedRecord 4) (refusedRecord 8)) k
+    by true others = after-four k rs
     by false others = others
 
 -- a joined record ends where its right part ends, so it stands to what follows as that part does
@@ -45,52 +55,53 @@ unfolding apart
 joined-apart l r [] e = refl
 joined-apart l r (q ∷ qs) e = rw (joined-end l r e)
 
--- the list is joined onto a record, unless one of the list is beyond the limit or two in turn do not adjoin
-abbrev After : RunRecord → List RunRecord → Type 0
-After l rs = ontoAll (alone l) rs ≡ recordAnswerOf (decide ((4, anyBeyond rs) ∷ (8, apart (l ∷ rs)) ∷ []) (joinedOnto l rs))
+joined-following : (l r : RunRecord) (rs : List RunRecord) → l .first + l .count ≡ r .first → following (joined l r) rs ≡ following r rs
+unfolding following
+joined-following l r [] e = refl
+joined-following l r (q ∷ qs) e =
+    ap (λ (b : Bool). cond (beyond (q .first) (q .count) || b) [] (q ∷ following q qs)) (joined-apart l r (q ∷ []) e)
 
-after-given : (l : RunRecord) (rs : List RunRecord) → l .first + l .count ≤ limit → After l rs
-unfolding ontoAll ontoOf unlessBeyond anyBeyond beyond apart joinTwo joinedOnto decide recordAnswerOf number orElse
-after-given l [] h = refl
-after-given l (r ∷ rs) h =
+-- the list is joined onto a record, unless one of the list is beyond the limit or two in turn do not adjoin
+abbrev answerAfter : RunRecord → List RunRecord → Bool → Bool → RecordAnswer
+answerAfter l rs over gap = recordAnswerOf (decide ((4, over) ∷ (8, gap) ∷ []) (joinedOnto l rs))
+
+abbrev After : RunRecord → LastPower → List RunRecord → Type 0
+After l k rs = ontoAll (kept (alone l) k) rs ≡ kept (answerAfter l rs (anyBeyond rs) (apart (l ∷ rs))) (lastOf k (following l rs))
+
+after-given : (l : RunRecord) (k : LastPower) (rs : List RunRecord) → l .first + l .count ≤ limit → After l k rs
+unfolding ontoAll ontoOf anyBeyond beyond apart following lastOf joinTwo joinKeeping keptAfter joinedOnto decide recordAnswerOf number orElse
+after-given l k [] h = refl
+after-given l k (r ∷ rs) h =
     rw (le-ltb limit (l .first + l .count) h)
-    (by (ltb limit (r .first + r .count)) (eqb (l .first + l .count) (r .first)) refl refl (after-given (joined l r) rs))
+    (by (ltb limit (r .first + r .count)) (eqb (l .first + l .count) (r .first)) refl refl (after-given (joined l r) (powerFor k (r .count)) rs))
   where
-    eight : (b : Bool) → cond b (refusedRecord 4) (refusedRecord 8) ≡ recordAnswerOf (decide ((4, b) ∷ (8, true) ∷ []) (joinedOnto (joined l r) rs))
+    eight : (b : Bool) → cond b (refusedRecord 4) (refusedRecord 8) ≡ answerAfter (joined l r) rs b true
     eight true = refl
     eight false = refl
 
     by : (b e : Bool) → ltb limit (r .first + r .count) ≡ b → eqb (l .first + l .count) (r .first) ≡ e
-        → ((joined l r) .first + (joined l r) .count ≤ limit → After (joined l r) rs)
-        → ontoAll (recordAnswerOf (decide ((4, b || false) ∷ (8, not e || false) ∷ []) (joined l r))) rs
-        ≡ recordAnswerOf (decide ((4, b || anyBeyond rs) ∷ (8, not e || apart (r ∷ rs)) ∷ []) (joinedOnto (joined l r) rs))
-    by true e u v others = after-four rs
-    by false false u v others = after-eight rs ∙ eight (anyBeyond rs)
+        → ((joined l r) .first + (joined l r) .count ≤ limit → After (joined l r) (powerFor k (r .count)) rs)
+        → ontoAll (kept (recordAnswerOf (decide ((4, b || false) ∷ (8, not e || false) ∷ []) (joined l r)))
+        (keptAfter (decide ((4, b || false) ∷ (8, not e || false) ∷ []) (joined l r)) k (r .count))) rs
+        ≡ kept (answerAfter (joined l r) rs (b || anyBeyond rs) (not e || apart (r ∷ rs))) (lastOf k (cond (b || (not e || false)) [] (r ∷ following r rs)))
+    by true e u v others = after-four k rs
+    by false false u v others = after-eight k rs ∙ ap (λ (a : RecordAnswer). kept a k) (eight (anyBeyond rs))
     by false true u v others =
-        let k : r .first + r .count ≤ limit = ltb-false limit (r .first + r .count) u in
+        let m : r .first + r .count ≤ limit = ltb-false limit (r .first + r .count) u in
         let a : l .first + l .count ≡ r .first = eqb-true (l .first + l .count) (r .first) v in
-        let w : (joined l r) .first + (joined l r) .count ≤ limit = rw (joined-end l r a) k in
+        let w : (joined l r) .first + (joined l r) .count ≤ limit = rw (joined-end l r a) m in
         others w
-        ∙ ap (λ (x : Bool). recordAnswerOf (decide ((4, anyBeyond rs) ∷ (8, x) ∷ []) (joinedOnto (joined l r) rs))) (joined-apart l r rs a)
+        ∙ ap₂ (λ (x : Bool) (y : List RunRecord). kept (answerAfter (joined l r) rs (anyBeyond rs) x) (lastOf (powerFor k (r .count)) y)) (joined-apart l r rs a) (joined-following l r rs a)
 
--- THE LAW: from no record, the answer to the list
-pub list-joined : (rs : List RunRecord) → ontoAll (refusedRecord 9) rs ≡ recordAnswerOf (joinList rs)
-unfolding ontoAll ontoOf unlessBeyond anyBeyond beyond apart none joinList joinedAll decide recordAnswerOf number orElse
+-- THE LAW: from no record, the answer to the list, and the power kept after the right records that were joined
+pub list-joined : (rs : List RunRecord) → ontoAll started rs ≡ kept (recordAnswerOf (joinList rs)) (lastOf noPower (rights (joinedFront rs)))
+unfolding ontoAll ontoOf unjoined unlessBeyond anyBeyond beyond apart none joinList joinedAll joinedFront lastOf rights decide recordAnswerOf number orElse
 list-joined [] = refl
 list-joined (r ∷ rs) = by (ltb limit (r .first + r .count)) refl
   where
     by : (b : Bool) → ltb limit (r .first + r .count) ≡ b
-        → ontoAll (cond b (refusedRecord 4) (alone r)) rs
-        ≡ recordAnswerOf (decide ((4, b || anyBeyond rs) ∷ (8, apart (r ∷ rs)) ∷ (9, false) ∷ []) (joinedOnto r rs))
-    by true u = after-four rs
-    by false u = after-given r rs (ltb-false limit (r .first + r .count) u)
-
--- ---- a loop over the list: of what is left at index i
-
-pub one-more : (a : RecordAnswer) (rs : List RunRecord) (i : ℕ) (d : RunRecord) → i < length rs → ontoAll a (drop i rs) ≡ ontoAll (ontoOf a (getD rs i d)) (drop (i + 1) rs)
-unfolding ontoAll
-one-more a rs i d h = ap (ontoAll a) (drop-cons rs i d h) ∙ rw add-one
-
-pub none-left : (a : RecordAnswer) (rs : List RunRecord) (i : ℕ) → length rs ≤ i → ontoAll a (drop i rs) ≡ a
-unfolding ontoAll
-none-left a rs i h = ap (ontoAll a) (drop-of-length-le rs h)
+        → ontoAll (kept (cond b (refusedRecord 4) (alone r)) noPower) rs
+        ≡ kept (recordAnswerOf (decide ((4, b || anyBeyond rs) ∷ (8, apart (r ∷ rs)) ∷ (9, false) ∷ []) (joinedOnto r rs)))
+        (lastOf noPower (rights (cond b [] (r ∷ following r rs))))
+    by true u = after-four noPower rs
+    by false u = after-given r noPower rs (ltb-false limit (r .first + r .count) u)

@@ -1,57 +1,27 @@
--- By the refusal so far: each return under what was tested on the way to it.
+-- Joined on where there is a record so far; else nothing is joined, and the power stays.
 use borrow.Author.Needs.{needs}
 use mathlib.Core.Path.{sym, ap, _∙_}
-use native.Mathlib.Omega.{arith}
-use Rattle.record_list.specs.Onto.{unlessBeyond}
-use Rattle.record_list.proofs.Cases.{onto-given, onto-apart, onto-none, onto-stands}
+use Rattle.mode.specs.declared.RecordAnswer.{RecordAnswer}
+use Rattle.record_list.specs.Onto.{kept}
+use Rattle.record_list.proofs.Cases.{onto-given, onto-refused}
 use Rattle.record_list.proofs.onto.Statement.{statement}
 use Rattle.record_list.proofs.onto.Tie as tie
 
-join-requires : tie.Need-join-requires
-join-requires c κs = search needs
+join-keeping-requires : tie.Need-join-keeping-requires
+join-keeping-requires c κs = search needs
 
 returns : tie.Need-returns
 returns c =
-    let a = c .before .before .before .args in
-    c .join .ensures ∙ sym (onto-given (a .so-far) (a .next) (omega arith))
+    let a = c .before .before .before .before .before .args in
+    c .join-keeping .ensures ∙ sym (onto-given (a .so-far) (a .next) (c .before .before .if1 .taken))
 
-refused-requires : tie.Need-refused-requires
-refused-requires c κs = search needs
-
-unless-beyond-requires : tie.Need-unless-beyond-requires
-unless-beyond-requires c κs = search needs
+unjoined-requires : tie.Need-unjoined-requires
+unjoined-requires c κs = search needs
 
 returns-2 : tie.Need-returns-2
 returns-2 c =
     let a = c .before .before .before .before .args in
-    c .unless-beyond .ensures ∙ ap (unlessBeyond (a .next)) (c .before .refused .ensures) ∙ sym (onto-apart (a .so-far) (a .next) (omega arith))
-
-unless-beyond-requires-2 : tie.Need-unless-beyond-requires-2
-unless-beyond-requires-2 c κs = search needs
-
-returns-3 : tie.Need-returns-3
-returns-3 c =
-    let a = c .before .before .before .before .args in
-    c .unless-beyond2 .ensures ∙ sym (onto-none (a .so-far) (a .next) (omega arith))
-
-refused-requires-2 : tie.Need-refused-requires-2
-refused-requires-2 c κs = search needs
-
-returns-4 : tie.Need-returns-4
-returns-4 c =
-    let a = c .before .before .before .before .args in
-    c .refused2 .ensures ∙ sym (onto-stands (a .so-far) (a .next) (λ e. omega arith) (λ e. omega arith) (λ e. omega arith))
+    ap (λ (z : RecordAnswer). kept z (a .so-far .last)) (c .unjoined .ensures) ∙ sym (onto-refused (a .so-far) (a .next) (c .before .if1 .left))
 
 pub onto-spec : {M : Type 1} → statement M
-onto-spec =
-    tie.close
-    (tie.spec
-    join-requires
-    returns
-    refused-requires
-    unless-beyond-requires
-    returns-2
-    unless-beyond-requires-2
-    returns-3
-    refused-requires-2
-    returns-4)
+onto-spec = tie.close (tie.spec join-keeping-requires returns unjoined-requires returns-2)

@@ -17,7 +17,7 @@ join-records-requires c κs = search needs
 
 returns-2 : tie.Need-returns-2
 unfolding joinListBytes
-returns-2 c = let a = c .before .before .before .args in rw (some-records (a .records .now) (c .before .if1 .left)) (c .join-records .ensures)
+returns-2 c = let a = c .before .before .before .before .args in rw (some-records (a .records .now) (c .before .before .if1 .left)) (c .before .join-records .ensures .answer)
 
 pub join-bytes-spec : {M : Type 1} → statement M
 join-bytes-spec = tie.close (tie.spec refused-requires returns join-records-requires returns-2)

@@ -1,0 +1,25 @@
+-- The power of the variable, forwards.
+use borrow.Author.Needs.{needs}
+use mathlib.Core.Path.{ap}
+use mathlib.Core.Bool.{true}
+use mathlib.Core.List.{List}
+use Prim.Native.Nat.{ℕ, _+_}
+use Rattle.blocks.specs.Gf128.{signed}
+use Rattle.mode.specs.Powers.{workedOut}
+use Rattle.mode.proofs.LastPower.work_out.Statement.{statement}
+use Rattle.mode.proofs.LastPower.work_out.Tie as tie
+
+power-requires : tie.Need-power-requires
+power-requires c κs = search needs
+
+add-t4 : tie.Need-add-t4
+add-t4 c = search needs
+
+returns : tie.Need-returns
+unfolding workedOut signed
+returns c =
+    let a = c .before .before .args in
+    ap (λ (p : List ℕ). record { some = true; count = a .count; power = p; total = a .self .total + 1 }) (c .before .power .ensures)
+
+pub work-out-spec : {M : Type 1} → statement M
+work-out-spec = tie.close (tie.spec power-requires add-t4 returns)
