@@ -4,14 +4,14 @@ use mathlib.Core.List.{List}
 use Prim.Native.Nat.{ℕ, suc, _+_, _*_, _/_, _%_, _^_, _≤_, _<_}
 use native.Mathlib.Nat.{zero-mul, one-mul, le-of-eq}
 use native.Mathlib.Omega.{arith}
-use lib.Bits.{bitXor}
+use lib.Bits.{bitXor, xor-self}
 use lib.ListN.{length, getD, take}
 use lib.Seq.{take-all}
 use Rattle.blocks.specs.Bytes.{Block, xorBytes}
 use Rattle.blocks.specs.Field.{step, steps, times, mul}
 use Rattle.blocks.specs.Gf128.{timesX, num, product}
 use Rattle.blocks.proofs.Xor.{xor-assoc}
-use Rattle.blocks.proofs.Field.{step-linear}
+use Rattle.blocks.proofs.Field.{step-linear, times-left}
 use Rattle.blocks.proofs.Square.{times-more}
 use Rattle.blocks.proofs.TimesX.{block-timesX}
 use Rattle.blocks.proofs.Num.{num-xor, num-timesX, num-take}
@@ -66,6 +66,11 @@ module _ (v b r₀ r₁ r₂ r₃ r₄ r₅ r₆ r₇ r₈ : ℕ) where
       f₈
 
 -- ---- the loop: r is b times the first i bytes of a
+
+-- none of the bits so far is set
+pub product-none : (a : List ℕ) (i b : ℕ) → num (take i a) ≡ 0 → 0 ≡ times 127 0x87 (i * 8) (num (take i a)) b
+product-none a i b e =
+    sym (ap (λ (z : ℕ). times 127 0x87 (i * 8) z b) e ∙ times-left 127 0x87 (i * 8) b 0 0 ∙ xor-self (times 127 0x87 (i * 8) 0 b))
 
 pub product-more : (a : List ℕ) (i r t b : ℕ) → i < length a → getD a i 0 < 256 → r ≡ times 127 0x87 (i * 8) (num (take i a)) b
     → t ≡ bitXor (times 127 0x87 8 (getD a i 0) b) (steps 127 0x87 8 r)

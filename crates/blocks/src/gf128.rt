@@ -62,13 +62,30 @@ fn take_byte(r: [u8; 16], v: u8, b: [u8; 16]) -> [u8; 16]
     take_bit(r7, v % 2, b)
 }
 
+// The number of zero bytes at the front.
+fn zero_bytes(a: [u8; 16]) -> usize
+    ensures { λ n. ⌜ (n ≤ 16) × (num (take n a) ≡ 0) ⌝ }
+{
+    let mut n: usize = 0;
+    while n < 16 {
+        if a[n] != 0 {
+            return n;
+        }
+        n += 1;
+    }
+    n
+}
+
+// The zero bytes at the front of a are passed over: low powers of x, by which short runs are joined and jumped over, have up to 15 of them.
 pub fn multiply(a: [u8; 16], b: [u8; 16]) -> [u8; 16]
     ensures { λ r. ⌜ r ≡ product a b ⌝ }
 {
     let mut r = [0u8; 16];
-    for i in 0..16 {
+    let mut i = zero_bytes(a);
+    while i < 16 {
         let t = take_byte(r, a[i], b);
         r = t;
+        i += 1;
     }
     r
 }

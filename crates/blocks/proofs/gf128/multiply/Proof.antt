@@ -1,4 +1,4 @@
--- The loop has b times the first i bytes of a.
+-- The loop has b times the first i bytes of a. It starts behind the zero bytes at the front.
 use borrow.Author.Needs.{needs}
 use mathlib.Core.Path.{_≡_, refl}
 use Prim.Native.Nat.{_≤_, _*_, _-_}
@@ -9,7 +9,7 @@ use Rattle.blocks.specs.Field.{times}
 use Rattle.blocks.specs.Gf128.{num}
 use Rattle.blocks.proofs.Array.{block-by}
 use Rattle.blocks.proofs.Test.{bytes-by}
-use Rattle.blocks.proofs.Horner.{product-more, product-all}
+use Rattle.blocks.proofs.Horner.{product-none, product-more, product-all}
 use Rattle.blocks.proofs.gf128.multiply.Statement.{statement}
 use Rattle.blocks.proofs.gf128.multiply.Tie as tie
 
@@ -22,9 +22,14 @@ abbrev μ-loop : tie.MeasureT-loop
 block-a : (c : tie.Start Inv-loop μ-loop) → Block (c .args .t1)
 block-a c = block-by (c .args .t1) (search needs) (λ i. search needs)
 
+zero-bytes-requires : tie.Need-zero-bytes-requires Inv-loop μ-loop
+zero-bytes-requires c κs = search needs
+
 loop-holds : tie.Need-loop-holds Inv-loop μ-loop
-unfolding num times
-loop-holds c = (search needs, record { long = refl; bytes = bytes-by (zeros 16) tt }, refl)
+unfolding num
+loop-holds c =
+    let a = c .before .args in
+    (search needs, record { long = refl; bytes = bytes-by (zeros 16) tt }, product-none (a .t1) (c .zero-bytes .result) (num (a .b)) (c .zero-bytes .ensures .1))
 
 array-read-take-byte : tie.Need-array-read-take-byte Inv-loop μ-loop
 array-read-take-byte c = search needs
@@ -40,7 +45,7 @@ loop-less c = search needs
 
 loop-again : tie.Need-loop-again Inv-loop μ-loop
 loop-again c =
-    let s = c .before .before .before in
+    let s = c .before .before .before .before in
     let l = c .before .before .loop in (
       search needs,
       block-by (c .take-byte .result) (search needs) (λ i. search needs),
@@ -50,7 +55,7 @@ loop-again c =
 
 returns : tie.Need-returns Inv-loop μ-loop
 returns c =
-    let s = c .before .before in
+    let s = c .before .before .before in
     let l = c .before .loop in
     product-all (s .args .t1) (s .args .b) (l .r) (l .i) (block-a s) (block-by (s .args .b) (search needs) (λ i. search needs)) (l .inv .1)
     (l .inv .0) (c .loop-test .left) (l .inv .2)
@@ -61,6 +66,7 @@ multiply-spec =
     (tie.spec
     Inv-loop
     μ-loop
+    zero-bytes-requires
     loop-holds
     array-read-take-byte
     take-byte-requires
