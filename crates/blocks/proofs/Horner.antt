@@ -1,7 +1,7 @@
 -- A product from the top bit down, as the code does it: of r and n more bits of a comes r x^n + a b.
 use mathlib.Core.Path.{_≡_, refl, sym, ap, ap₂, _∙_}
 use mathlib.Core.List.{List}
-use Prim.Native.Nat.{ℕ, suc, _+_, _*_, _/_, _%_, _^_, _≤_, _<_}
+use Prim.Native.Nat.{ℕ, suc, _+_, _*_, _/_, _%_, _≤_, _<_}
 use native.Mathlib.Nat.{zero-mul, one-mul, le-of-eq}
 use native.Mathlib.Omega.{arith}
 use lib.Bits.{bitXor, xor-self}

@@ -1,10 +1,10 @@
 -- The power that joining keeps: it is always the variable to its count, and a join of two with it gives what the join of two gives.
 use mathlib.Core.Path.{_≡_, refl, ap, ap₂, sym, _∙_}
-use mathlib.Core.Bool.{Bool, true, false, cond, not, _&&_}
+use mathlib.Core.Bool.{Bool, true, false, cond, _&&_}
 use mathlib.Core.List.{List}
-use Prim.Native.Nat.{ℕ, _+_, _≤_, _<_, _^_}
+use Prim.Native.Nat.{ℕ, _+_, _<_}
 use native.Mathlib.Omega.{arith}
-use lib.Dec.{T, eqb, lit<}
+use lib.Dec.{eqb, lit<}
 use lib.IntN.{pos}
 use borrow.Author.Tests.{eq-eqb, ne-eqb, eqb-true}
 use Rattle.blocks.specs.Bytes.{Block, xorBytes}
@@ -13,7 +13,7 @@ use Rattle.blocks.proofs.Product.{product-power}
 use Rattle.mode.specs.Mode.{RunRecord}
 use Rattle.mode.specs.Table.{Answer, refused, given, firstRow}
 use Rattle.mode.specs.Calls.{RecordAnswer, joined, joinTwo, joinTwoRows, recordAnswerOf, refusedRecord}
-use Rattle.mode.specs.declared.LastPower.{LastPower}
+use Rattle.mode.specs.declared.power.LastPower.{LastPower}
 use Rattle.mode.specs.Powers.{noPower, Keeps, workedOut, powerFor, Joinable, keptAfter, joinKeeping}
 use Rattle.mode.proofs.Answers.{refuses, gives, refused-record, given-record}
 

@@ -11,7 +11,7 @@ use Rattle.mode.specs.Mode.{RunRecord, zeroBlock}
 use Rattle.mode.specs.Table.{Answer, refused, given}
 use Rattle.mode.specs.Calls.{joinTwo, recordAnswerOf}
 -- as the code declares them
-use Rattle.mode.specs.declared.LastPower.{LastPower}
+use Rattle.mode.specs.declared.power.LastPower.{LastPower}
 use Rattle.mode.specs.declared.KeptAnswer.{KeptAnswer}
 
 -- before the first join: none is kept, and none was worked out

@@ -1,11 +1,14 @@
 // Cipher-State mode as definitions (specs/), laws and the demands' theorems (proofs/), over any block cipher that is cut into two
 // halves. The calls stand above this crate. What they answer is declared here, so that the definitions speak of the very types; and
 // here is the join of two run records.
+pub mod power;
+
+use power::LastPower;
 ghost use mathlib.Core.Path.{_≡_};
 ghost use Prim.Native.Nat.{_+_};
 ghost use Rattle.mode.specs.Table.{firstRow};
 ghost use Rattle.mode.specs.Calls.{joined, joinTwo, joinTwoRows, recordAnswerOf, refusedRecord};
-ghost use Rattle.mode.specs.Powers.{noPower, Keeps, workedOut, powerFor, Joinable, joinKeeping};
+ghost use Rattle.mode.specs.Powers.{Keeps, Joinable, joinKeeping};
 
 // The most blocks that a list may have.
 pub const LIMIT: u64 = 4000;
@@ -47,60 +50,10 @@ pub struct TagAnswer {
     pub tag: [u8; 16],
 }
 
-// The last power of x that joining worked out: x^count, once `some` is set. `total` says how many were worked out.
-pub struct LastPower {
-    pub some: bool,
-    pub count: u32,
-    pub power: [u8; 16],
-    pub total: u64,
-}
-
 // The answer of a join, and the power of x that is kept for the next one.
 pub struct KeptAnswer {
     pub answer: RecordAnswer,
     pub last: LastPower,
-}
-
-impl LastPower {
-    // Before the first join. Nothing is kept that could pass for x^0.
-    pub fn none() -> LastPower
-        ensures { λ k. ⌜ k ≡ noPower ⌝ }
-    {
-        LastPower {
-            some: false,
-            count: 0,
-            power: [0u8; 16],
-            total: 0,
-        }
-    }
-
-    // x^count, worked out and counted, is kept in the place of the one before.
-    fn work_out(self, count: u32) -> LastPower
-        requires { ⌜ Keeps self ⌝ }
-        ensures { λ k. ⌜ k ≡ workedOut self count ⌝ }
-    {
-        let power = blocks::gf128::power(count, false);
-        LastPower {
-            some: true,
-            count,
-            power,
-            total: self.total + 1,
-        }
-    }
-
-    // x^count: the one that is kept, where it has that count, or worked out.
-    fn for_count(self, count: u32) -> LastPower
-        requires { ⌜ Keeps self ⌝ }
-        ensures { λ k. ⌜ k ≡ powerFor self count ⌝ }
-    {
-        if !self.some {
-            return self.work_out(count);
-        }
-        if self.count != count {
-            return self.work_out(count);
-        }
-        self
-    }
 }
 
 impl RunRecord {

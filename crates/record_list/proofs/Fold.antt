@@ -9,7 +9,7 @@ use lib.Dec.{eqb, ltb}
 use borrow.Author.Tests.{le-ltb, ltb-false, eqb-true}
 use Rattle.mode.specs.declared.RunRecord.{RunRecord}
 use Rattle.mode.specs.declared.RecordAnswer.{RecordAnswer}
-use Rattle.mode.specs.declared.LastPower.{LastPower}
+use Rattle.mode.specs.declared.power.LastPower.{LastPower}
 use Rattle.mode.specs.Table.{decide, limit, beyond, anyBeyond, apart, none}
 use Rattle.mode.specs.Calls.{joined, joinedOnto, joinedAll, joinTwo, joinList, number, orElse, recordAnswerOf, refusedRecord}
 use Rattle.mode.specs.Powers.{noPower, powerFor, keptAfter, joinKeeping}

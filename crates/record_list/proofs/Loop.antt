@@ -1,7 +1,7 @@
 -- A loop over a list of records, one record joined on at each turn.
 use mathlib.Core.Path.{_≡_, refl, sym, ap, subst, _∙_}
-use mathlib.Core.Bool.{Bool, true, false, cond, not, _&&_}
-use mathlib.Core.List.{List, []}
+use mathlib.Core.Bool.{Bool, true, false, cond, _&&_}
+use mathlib.Core.List.{List}
 use Prim.Native.Nat.{ℕ, _+_, _≤_, _<_, _^_}
 use native.Mathlib.Omega.{arith}
 use native.Mathlib.Numerals.{add-one}
@@ -12,7 +12,7 @@ use lib.Seq.{drop-cons}
 use Rattle.blocks.specs.Gf128.{power}
 use Rattle.mode.specs.declared.RunRecord.{RunRecord}
 use Rattle.mode.specs.declared.RecordAnswer.{RecordAnswer}
-use Rattle.mode.specs.declared.LastPower.{LastPower}
+use Rattle.mode.specs.declared.power.LastPower.{LastPower}
 use Rattle.mode.specs.declared.KeptAnswer.{KeptAnswer}
 use Rattle.mode.specs.Table.{Answer, refused, given}
 use Rattle.mode.specs.Calls.{joinTwo}
@@ -92,5 +92,5 @@ module _ (rs : List RunRecord) where
         record {
           answer = a;
           joined = λ g. t ∙ ap powersOf (whole-front rs (sym (ap (λ (z : RecordAnswer). z .refusal) a) ∙ g));
-          refused = t;
+          front = t;
         }

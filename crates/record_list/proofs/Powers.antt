@@ -1,13 +1,13 @@
 -- The powers worked out, counted: what the kept power's total comes to is the number that the definition gives.
-use mathlib.Core.Path.{_≡_, refl, sym, ap, ap₂, _∙_}
+use mathlib.Core.Path.{_≡_, refl, ap, _∙_}
 use mathlib.Core.Bool.{Bool, true, false, cond, not, _&&_, _||_}
 use mathlib.Core.List.{List, [], _∷_}
-use Prim.Native.Nat.{ℕ, _+_, _≤_, _<_, _^_}
+use Prim.Native.Nat.{ℕ, _+_}
 use native.Mathlib.Omega.{arith}
 use lib.Dec.{eqb}
 use borrow.Author.Tests.{eqb-true}
 use Rattle.mode.specs.declared.RunRecord.{RunRecord}
-use Rattle.mode.specs.declared.LastPower.{LastPower}
+use Rattle.mode.specs.declared.power.LastPower.{LastPower}
 use Rattle.mode.specs.Table.{decide, beyond, anyBeyond, apart, none}
 use Rattle.mode.specs.Calls.{joinedAll, joinList, number, recordAnswerOf}
 use Rattle.mode.specs.Powers.{noPower, workedOut, powerFor}

@@ -31,8 +31,9 @@ unfoldable pub joinedFront : List RunRecord → List RunRecord
 joinedFront [] = []
 joinedFront (l ∷ rs) = cond (beyond (l .first) (l .count)) [] (l ∷ following l rs)
 
--- a list joined: the answer, and the powers that were worked out for it. Where the list is refused they are those of the front that was joined.
+-- A LIST, JOINED: the answer of the call, and the powers that were worked out for it. Of a list that is refused they are those of the front
+-- that was joined.
 pub record Counted (rs : List RunRecord) (a : KeptAnswer) : Type 0 where
   pub answer : a .answer ≡ recordAnswerOf (joinList rs)
   pub joined : a .answer .refusal ≡ 0 → a .last .total ≡ powersOf rs
-  pub refused : a .last .total ≡ powersOf (joinedFront rs)
+  pub front : a .last .total ≡ powersOf (joinedFront rs)

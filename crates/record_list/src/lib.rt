@@ -1,9 +1,9 @@
 // The join of a lent list of run records: one fold over the join of two, which keeps the last power of x and uses it again while the count
 // is the same.
 use mode::KeptAnswer;
-use mode::LastPower;
 use mode::RecordAnswer;
 use mode::RunRecord;
+use mode::power::LastPower;
 ghost use mathlib.Core.Path.{_≡_};
 ghost use Rattle.mode.specs.Calls.{joinList, recordAnswerOf};
 ghost use Rattle.mode.specs.Powers.{Keeps};

@@ -1,6 +1,6 @@
 -- A loop that joins a record on at each turn.
 use borrow.Author.Needs.{needs}
-use mathlib.Core.Path.{_≡_, sym, subst}
+use mathlib.Core.Path.{sym, subst}
 use Prim.Native.Nat.{_+_, _-_, _≤_, _^_, _<_}
 use native.Mathlib.Omega.{arith}
 use Rattle.mode.specs.declared.KeptAnswer.{KeptAnswer}

@@ -1,6 +1,6 @@
 -- The join with nothing kept.
 use borrow.Author.Needs.{needs}
-use mathlib.Core.Path.{_≡_, sym, ap, subst, _∙_}
+use mathlib.Core.Path.{sym, ap, subst, _∙_}
 use Rattle.mode.specs.declared.KeptAnswer.{KeptAnswer}
 use Rattle.mode.specs.Powers.{Keeps}
 use Rattle.mode.proofs.Powers.{keeps-none, keeping-answer}

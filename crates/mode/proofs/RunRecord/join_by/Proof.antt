@@ -1,9 +1,5 @@
 -- The product with the power is the jump by the right one's count.
 use borrow.Author.Needs.{needs}
-use mathlib.Core.Path.{_≡_, ap, _∙_}
-use mathlib.Core.List.{List}
-use Prim.Native.Nat.{ℕ, _+_}
-use Rattle.blocks.specs.Bytes.{xorBytes}
 use Rattle.blocks.proofs.Array.{block-by}
 use Rattle.mode.proofs.Powers.{joined-by}
 use Rattle.mode.proofs.RunRecord.join_by.Statement.{statement}

@@ -1,11 +1,11 @@
 -- By the refusal: with none, the power that is kept or worked out is the variable to the right one's count.
 use borrow.Author.Needs.{needs}
 use mathlib.Core.Path.{_≡_, sym, ap, _∙_}
-use Prim.Native.Nat.{_+_, _<_, _≤_, _^_}
+use Prim.Native.Nat.{_+_, _≤_}
 use native.Mathlib.Omega.{arith}
 use Rattle.mode.specs.Table.{limit, firstRow}
 use Rattle.mode.specs.Calls.{joinTwoRows}
-use Rattle.mode.specs.declared.LastPower.{LastPower}
+use Rattle.mode.specs.declared.power.LastPower.{LastPower}
 use Rattle.mode.proofs.Join.{join-counts}
 use Rattle.mode.proofs.Powers.{power-right, keeping-refused, keeping-given}
 use Rattle.mode.proofs.RunRecord.join_keeping.Statement.{statement}

@@ -3,8 +3,8 @@ use borrow.Author.Needs.{needs}
 use mathlib.Core.Path.{sym, _∙_}
 use borrow.Author.Tests.{not-true, not-false}
 use Rattle.mode.proofs.Powers.{none-kept, other-kept, this-kept}
-use Rattle.mode.proofs.LastPower.for_count.Statement.{statement}
-use Rattle.mode.proofs.LastPower.for_count.Tie as tie
+use Rattle.mode.proofs.power.LastPower.for_count.Statement.{statement}
+use Rattle.mode.proofs.power.LastPower.for_count.Tie as tie
 
 work-out-requires : tie.Need-work-out-requires
 work-out-requires c κs = search needs

@@ -1,7 +1,7 @@
 -- Each field is the definition's.
 use mathlib.Core.Path.{refl}
-use Rattle.mode.proofs.LastPower.none.Statement.{statement}
-use Rattle.mode.proofs.LastPower.none.Tie as tie
+use Rattle.mode.proofs.power.LastPower.none.Statement.{statement}
+use Rattle.mode.proofs.power.LastPower.none.Tie as tie
 
 returns : tie.Need-returns
 returns c = refl

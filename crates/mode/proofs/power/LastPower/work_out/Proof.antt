@@ -6,8 +6,8 @@ use mathlib.Core.List.{List}
 use Prim.Native.Nat.{ℕ, _+_}
 use Rattle.blocks.specs.Gf128.{signed}
 use Rattle.mode.specs.Powers.{workedOut}
-use Rattle.mode.proofs.LastPower.work_out.Statement.{statement}
-use Rattle.mode.proofs.LastPower.work_out.Tie as tie
+use Rattle.mode.proofs.power.LastPower.work_out.Statement.{statement}
+use Rattle.mode.proofs.power.LastPower.work_out.Tie as tie
 
 power-requires : tie.Need-power-requires
 power-requires c κs = search needs
