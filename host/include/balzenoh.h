@@ -69,19 +69,19 @@
  *  - Its size, and the stack that each call was seen to use, from its caller's frame down, as
  *    host/stack/run printed them, in bytes:
  *
- *      code      22709
+ *      code      23400
  *      constants  2016
  *      variables     0
  *
  *      seal       1696
  *      open       2128
  *      seal_run   1712
- *      check_run  1712
- *      join        640
- *      join_list   672
+ *      check_run  1728
+ *      join        832
+ *      join_list   928
  *      close      1696
  *      test       1680
- *      jump        592
+ *      jump        576
  *
  *    No function recurses. No proof bounds the stack.
  *

@@ -3,6 +3,7 @@
 use case_tools::bytes::blank;
 use case_tools::bytes::gives_record;
 use case_tools::bytes::one_if;
+use case_tools::hex::block;
 use mode::RecordAnswer;
 use mode::RunRecord;
 ghost use mathlib.Core.Path.{_≡_};
@@ -65,6 +66,41 @@ fn joined() -> usize {
     agreed(one, two, three, full)
 }
 
+// A record of blocks from 0 on.
+fn from_start(count: u32, preauthenticator: [u8; 16]) -> RunRecord {
+    RunRecord {
+        first: 0,
+        count,
+        preauthenticator,
+    }
+}
+
+// A power of x that is kept: right records of one count, of two, of one count behind another, and behind one of no block. The values are
+// those of vectors/make-mode-vectors.
+fn kept() -> usize {
+    let equal = gives(
+        [run(0, 1000, 1), run(1000, 1000, 2), run(2000, 1000, 3)],
+        3,
+        from_start(3000, block(b"EB27F0AF8D59030385858584888888FE")),
+    );
+    let other = gives(
+        [run(0, 500, 1), run(500, 1000, 2), run(1500, 500, 3)],
+        3,
+        from_start(2000, block(b"3E5EBFBCA3030303030385858D620E96")),
+    );
+    let behind = gives(
+        [run(0, 1, 1), run(1, 3, 2), run(4, 3, 3)],
+        3,
+        from_start(7, block(b"53535353535353535353535353535353")),
+    );
+    let empty = gives(
+        [run(0, 5, 1), run(5, 0, 2), run(5, 3, 3)],
+        3,
+        from_start(8, block(b"1B1B1B1B1B1B1B1B1B1B1B1B1B1B1B1B")),
+    );
+    agreed(equal, other, behind, empty)
+}
+
 // 9: no record, before records that join, that do not adjoin, that are beyond the limit, and that are blank.
 fn none() -> usize {
     let joins = refuses([run(0, 1, 1), run(1, 2, 2), run(3, 1, 3)], 0, 9);
@@ -94,6 +130,7 @@ fn beyond() -> usize {
 
 fn main() {
     case_tools::report(b"lent lists that join", joined(), 4);
+    case_tools::report(b"lent lists with a power kept", kept(), 4);
     case_tools::report(b"refusal 9 of a lent list", none(), 4);
     case_tools::report(b"refusal 8 of a lent list", apart(), 4);
     case_tools::report(b"refusal 4 of a lent list", beyond(), 4);

@@ -185,8 +185,8 @@ fn kept() -> usize {
         + gives(of4(0, 5, 5, 0, 5, 3, 8, 3), empty)
 }
 
-// Powers of x worked out, as ticket P2 counts them: a list of one; a right record, and one of no block; right records of equal counts, the
-// second one of no block too.
+// Powers of x worked out, as ticket P2 counts them: a list of one; one right record, and one of no block; two right records of equal counts,
+// and two of no block.
 fn powers() -> usize {
     takes(of1(0, 3), 0)
         + takes(of2(0, 3, 3, 3), 1)
@@ -195,7 +195,8 @@ fn powers() -> usize {
         + takes(of3(0, 3, 3, 0, 3, 0), 1)
 }
 
-// Right records of which the second has another count; the last two; both; one of no block behind a count, and before it.
+// The second right record has another count; the third one that count too, or the first one's again; a right record of no block behind
+// another, and before others.
 fn powers_anew() -> usize {
     takes(of3(0, 3, 3, 3, 6, 2), 2)
         + takes(of4(0, 1, 1, 2, 3, 1, 4, 1), 2)
