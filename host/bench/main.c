@@ -45,6 +45,13 @@ static void measure_masks(struct figures *f, int direction) {
     measure(&f->jump_one[direction], 10, ways[direction][JUMP], NULL, 1);
 }
 
+/* As many turns as make the same number of records in every shape. */
+static void measure_joins(struct figures *f) {
+    for (int shape = 0; shape < SHAPES; shape++)
+        for (int way = 0; way < JOINS; way++)
+            measure(&f->join[shape][way], (int)(MOST_RECORDS / shapes[shape].records), joins[way], NULL, (size_t)shape);
+}
+
 static void measure_round(struct figures *f) {
     for (int task = 0; task < TASKS; task++)
         for (int who = 0; who < CONTESTANTS; who++) {
@@ -54,6 +61,7 @@ static void measure_round(struct figures *f) {
     measure_threads(f);
     measure_masks(f, FORWARD);
     measure_masks(f, BACK);
+    measure_joins(f);
 }
 
 int main(int count, char **arguments) {
@@ -67,6 +75,7 @@ int main(int count, char **arguments) {
     prepare();
     compare_results(contestants, CONTESTANTS);
     compare_jumps();
+    compare_joins();
     compare_threads();
     for (int round = atoi(arguments[1]); round > 0; round--)
         measure_round(&figures);

@@ -12,6 +12,7 @@ enum { LONG, SHORT, SIZES };
 struct figures {
     double task[SIZES][TASKS][CONTESTANTS];
     double far[DIRECTIONS][WAYS], jump_one[DIRECTIONS];
+    double join[SHAPES][JOINS];
     double one_thread, two_threads, with_helper, one_thread_lists, two_threads_lists;
 };
 

@@ -53,6 +53,21 @@ static void print_masks(const struct figures *f) {
     print_steps(f, "4000 steps in C, by 64-bit words", STEPS_BY_WORDS);
 }
 
+/* How many times the join as a list another way takes. */
+static double over_list(const struct figures *f, int shape, int way) {
+    return f->join[shape][way] / f->join[shape][AS_LIST];
+}
+
+static void print_joins(const struct figures *f) {
+    printf("%-26s%10s%8s%16s%12s%16s\n", "joins, ns a record", "as a list", "pairs", "times the list", "C by words", "times the list");
+    for (int shape = 0; shape < SHAPES; shape++) {
+        double records = (double)shapes[shape].records;
+        const double *times = f->join[shape];
+        printf("  %-24s%10.0f%8.0f%16.2f%12.1f%16.3f\n", shapes[shape].name, times[AS_LIST] / records, times[PAIR_BY_PAIR] / records,
+               over_list(f, shape, PAIR_BY_PAIR), times[BY_STEPS] / records, over_list(f, shape, BY_STEPS));
+    }
+}
+
 static void print_threads(const char *what, double one, double two, int lists) {
     printf("  %-41s%10.0f%12.0f%10.2f\n", what, one / (1e3 * lists), two / (1e3 * lists), one / two);
 }
@@ -65,6 +80,7 @@ void print_table(const struct figures *f) {
     print_over_aes(f, SEAL, ENCRYPT);
     print_over_aes(f, OPEN, DECRYPT);
     print_masks(f);
+    print_joins(f);
     printf("the longest list in two runs, us a list%14s%12s%10s\n", "one thread", "two", "ratio");
     print_threads("one list, with the second thread's start", f->one_thread, f->two_threads, 1);
     print_threads("eight lists in turn, with its start", f->one_thread_lists, f->two_threads_lists, LISTS);
@@ -98,6 +114,9 @@ void print_expectations(const struct figures *f) {
     expect("4000 divisions by bytes over jump by -4000", over_jump(f, BACK, STEPS_BY_BYTES), 8);
     expect("4000 divisions by 64-bit words over jump by -4000", over_jump(f, BACK, STEPS_BY_WORDS), 8);
     expect_at_most("jump by -4000 over jump by 4000", f->far[BACK][JUMP] / f->far[FORWARD][JUMP], 1.1);
+    expect("1000 records of 4 blocks, pairs over the list", over_list(f, EQUAL_4, PAIR_BY_PAIR), 3);
+    /* Where no power serves twice the list is no slower than working out each anew. */
+    expect("1000 of 4 and 3 in turn, pairs over the list", over_list(f, IN_TURN, PAIR_BY_PAIR), 0.95);
     expect("one thread over two, one list", f->one_thread / f->two_threads, 1.8);
     expect("one thread over two, eight lists", f->one_thread_lists / f->two_threads_lists, 1.8);
     expect("one thread over two, one list, second waiting", f->one_thread / f->with_helper, 1.8);

@@ -17,6 +17,20 @@ enum { FORWARD, BACK, DIRECTIONS };
 enum { JUMP, STEPS_BY_BYTES, STEPS_BY_WORDS, WAYS };
 extern work *const ways[DIRECTIONS][WAYS];
 
+/* The ways to join the records of a list's runs: by the library in one call or a pair at a time, or by single steps in C, by 64-bit words.
+   Each is given the shape in the place of the blocks; `who` is not used. */
+enum { AS_LIST, PAIR_BY_PAIR, BY_STEPS, JOINS };
+extern work *const joins[JOINS];
+
+/* How a list is cut into runs: so many records, whose counts of blocks are these two in turn. */
+struct shape {
+    const char *name;
+    size_t records, counts[2];
+};
+enum { EQUAL_4, EQUAL_1, IN_TURN, EQUAL_200, EQUAL_500, SHAPES };
+enum { MOST_RECORDS = 1000 };
+extern const struct shape shapes[SHAPES];
+
 /* So many longest lists sealed in two runs each, by one thread or by two; `who` is not used. */
 work seal_on_one_thread, seal_on_two_threads;
 
@@ -36,9 +50,10 @@ const uint8_t *sealed_record(size_t blocks);
 /* What the last piece of work wrote, which the next one writes over. */
 extern uint8_t output[16 * LONG_LIST + 32];
 
-/* Stops the program where the contestants' results differ, or the runs' from the whole list's. */
+/* Stops the program where the contestants' results differ, or the runs' from the whole list's. compare_joins makes its records first. */
 void compare_results(const struct contestant *const *contestants, int count);
 void compare_jumps(void);
+void compare_joins(void);
 void compare_threads(void);
 
 /* Says what differs, and stops the program. */
