@@ -26,7 +26,7 @@ unfoldable pub following : RunRecord → List RunRecord → List RunRecord
 following l [] = []
 following l (r ∷ rs) = cond (beyond (r .first) (r .count) || apart (l ∷ r ∷ [])) [] (r ∷ following r rs)
 
--- THE FRONT OF A LIST that is joined before the list is refused. Where it is not, that is the whole list.
+-- THE FRONT OF A LIST that is joined, where the list is refused. A list that is joined is its own front (`whole-front` in proofs/Powers.antt).
 unfoldable pub joinedFront : List RunRecord → List RunRecord
 joinedFront [] = []
 joinedFront (l ∷ rs) = cond (beyond (l .first) (l .count)) [] (l ∷ following l rs)
