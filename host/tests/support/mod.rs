@@ -6,6 +6,7 @@ pub mod call;
 pub mod cipher;
 pub mod fips197;
 pub mod library;
+pub mod lists;
 pub mod mode;
 pub mod plan;
 pub mod random;
