@@ -1,6 +1,6 @@
 /* The fuzzer's harness. It reads the fuzzer's bytes as a list of calls on one key, IV and message, and makes each of the library and of the
    reference. Many inputs are derived: genuine sealed records, some damaged; tags that are right over a text with no padding; records that
-   are neighbours; lists cut into runs. So calls get past the refusals that random bytes would end in. */
+   are neighbours, often of equal or alternating counts; lists cut into runs. So calls get past the refusals that random bytes would end in. */
 #include "both.h"
 #include "draw.h"
 #include "reference.h"
@@ -129,12 +129,48 @@ static uint32_t draw_count(draw *d, uint32_t first) {
     }
 }
 
+/* How the counts of a chain follow each other. */
+typedef struct {
+    enum { EACH_FOR_ITSELF, EQUAL, IN_TURN, IN_STRETCHES } way;
+    int with_empty;
+    uint32_t counts[2], now;
+} pattern;
+
+/* A count that fits so many times within the limit: small, or as draw_number has it. */
+static uint32_t draw_repeated(draw *d, size_t times) {
+    return (draw_rarely(d, 2) ? draw_number(d) : draw_below(d, 20)) % (uint32_t)(LIMIT / times + 1);
+}
+
+/* The second count is often the first with one bit flipped: a part of their bits does not tell them apart. */
+static pattern draw_pattern(draw *d, size_t length) {
+    pattern p = {EACH_FOR_ITSELF, 0, {0, 0}, 0};
+    if (length < 3)
+        return p;
+    p.way = draw_below(d, 4);
+    p.with_empty = draw_rarely(d, 4);
+    p.counts[0] = draw_repeated(d, length);
+    p.counts[1] = draw_rarely(d, 2) ? p.counts[0] ^ 1U << draw_below(d, 10) : draw_repeated(d, length);
+    return p;
+}
+
+/* The count of record i, which starts at `first`. A chain's first record is sometimes out of its pattern. */
+static uint32_t draw_next_count(draw *d, pattern *p, size_t i, uint32_t first) {
+    if (p->way == EACH_FOR_ITSELF || (i == 0 && draw_rarely(d, 4)))
+        return draw_count(d, first);
+    if (p->with_empty && draw_rarely(d, 3))
+        return 0;
+    if (p->way == IN_TURN || (p->way == IN_STRETCHES && draw_rarely(d, 3)))
+        p->now = 1 - p->now;
+    return p->counts[p->now];
+}
+
 /* A chain of `count` records, each of which starts where the one before it ends; in some chains, one block off here and there. */
 static void draw_chain(draw *d, size_t count, uint32_t first) {
     int broken = draw_rarely(d, 4);
+    pattern p = draw_pattern(d, count);
     for (size_t i = 0; i < count; i++) {
         uint8_t *record = records + RECORD * i;
-        uint32_t blocks = draw_count(d, first);
+        uint32_t blocks = draw_next_count(d, &p, i, first);
         put_number(record, first);
         put_number(record + 4, blocks);
         draw_fill(d, record + 8, 16);
@@ -152,7 +188,7 @@ static void call_join(draw *d) {
 
 static void call_join_list(draw *d) {
     size_t count = draw_rarely(d, 16) ? draw_below(d, RECORDS) : draw_below(d, 8);
-    draw_chain(d, count, draw_rarely(d, 2) ? draw_number(d) : 0);
+    draw_chain(d, count, draw_rarely(d, 4) ? draw_number(d) : draw_below(d, 100));
     size_t odd = draw_rarely(d, 32) ? draw_below(d, RECORD) : 0;
     both_join_list(bytes_of(records, RECORD * count + odd), draw_room(d, RECORD));
 }
@@ -202,11 +238,18 @@ static void seal_cut(const size_t *cuts, size_t runs, size_t i, size_t len) {
     must_be_same("a checked run's record", answer_run, records + RECORD * i, RECORD);
 }
 
+/* The full blocks at which the runs of a list begin: anywhere, or so that all but the last have one length. */
+static void draw_cuts(draw *d, size_t *cuts, size_t runs, size_t blocks) {
+    int equal = draw_rarely(d, 2);
+    cuts[0] = 0;
+    for (size_t i = 1; i < runs; i++)
+        cuts[i] = cuts[i - 1] + (equal ? blocks / runs : draw_below(d, 256) % (blocks - cuts[i - 1] + 1));
+}
+
 /* The runs from last to first, joined as a list and closed, are the record that sealing in one piece gives; and it opens. */
 static void call_cut(draw *d) {
-    size_t len = draw_below(d, 1600), cuts[RUNS] = {0}, runs = 1 + draw_below(d, RUNS), text = len / 16 * 16 + 16;
-    for (size_t i = 1; i < runs; i++)
-        cuts[i] = cuts[i - 1] + draw_below(d, 256) % (len / 16 - cuts[i - 1] + 1);
+    size_t len = draw_below(d, 1600), cuts[RUNS], runs = 1 + draw_below(d, RUNS), text = len / 16 * 16 + 16;
+    draw_cuts(d, cuts, runs, len / 16);
     for (size_t i = runs; i > 0; i--)
         seal_cut(cuts, runs, i - 1, len);
     memcpy(buffer, iv, 16);
