@@ -82,30 +82,44 @@ fn lists_of_equal_counts() {
     bench.finish();
 }
 
-/// Every two counts of the edges, in turn and in stretches, with empty runs first on the right, between others and in a row; then
-/// stretches of any few counts; then empty runs alone.
 #[test]
 fn lists_of_changing_counts() {
     let mut bench = Bench::new(plan::CHANGING_COUNTS);
     for (one, other) in EDGES.iter().flat_map(|&one| EDGES.map(|other| (one, other))) {
-        join_in_every_way(&mut bench, &lists::in_turn(one, other, 11));
-        join_in_every_way(&mut bench, &[one, one, one, other, other, one, other]);
-        join_in_every_way(&mut bench, &[one, 0, other, other, 0, 0, other, one, one]);
-        join_in_every_way(&mut bench, &[one, other, other, other, other]);
+        two_counts(&mut bench, one, other);
+    }
+    for (count, bit) in EDGES.iter().flat_map(|&count| (0..12).map(move |bit| (count, bit))) {
+        let other = count ^ 1 << bit;
+        join_in_every_way(&mut bench, &lists::fitting([0, count, other, count, other]));
+    }
+    for (one, other) in (0..=4).flat_map(|one| (0..=4).map(move |other| (one, other))) {
+        join_in_every_way(&mut bench, &lists::in_turn(one, other, 1_000));
     }
     for _ in 0..5_000 {
-        let records = bench.random.within(3, 40);
-        let few = lists::few_counts(&mut bench.random);
-        let mut counts = lists::stretches(&mut bench.random, &few, records);
-        if bench.random.once_in(3) {
-            counts = lists::with_empty_runs(&mut bench.random, counts);
-        }
-        join_in_every_way(&mut bench, &counts);
+        stretches_of_few_counts(&mut bench);
     }
     for records in (1..=40).chain([255, 256, 257, 1_000]) {
         join_in_every_way(&mut bench, &lists::equal(0, records));
     }
     bench.finish();
+}
+
+/// Two counts in turn and in stretches, with empty runs first on the right, between others and in a row.
+fn two_counts(bench: &mut Bench, one: u32, other: u32) {
+    join_in_every_way(bench, &lists::in_turn(one, other, 11));
+    join_in_every_way(bench, &[one, one, one, other, other, one, other]);
+    join_in_every_way(bench, &[one, 0, other, other, 0, 0, other, one, one]);
+    join_in_every_way(bench, &[one, other, other, other, other]);
+}
+
+fn stretches_of_few_counts(bench: &mut Bench) {
+    let records = bench.random.within(3, 40);
+    let few = lists::few_counts(&mut bench.random);
+    let mut counts = lists::stretches(&mut bench.random, &few, records);
+    if bench.random.once_in(3) {
+        counts = lists::with_empty_runs(&mut bench.random, counts);
+    }
+    join_in_every_way(bench, &counts);
 }
 
 /// Two runs, of which the right one has every count; and a third of the same count where it fits.
