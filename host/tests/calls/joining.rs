@@ -93,7 +93,8 @@ fn lists_of_changing_counts() {
         join_in_every_way(&mut bench, &lists::fitting([0, count, other, count, other]));
     }
     for (one, other) in (0..=4).flat_map(|one| (0..=4).map(move |other| (one, other))) {
-        join_in_every_way(&mut bench, &lists::in_turn(one, other, 1_000));
+        join_in_every_way(&mut bench, &lists::in_turn(one, other, 1, 1_000));
+        join_in_every_way(&mut bench, &lists::in_turn(one, other, 2, 1_000));
     }
     for _ in 0..5_000 {
         stretches_of_few_counts(&mut bench);
@@ -106,7 +107,7 @@ fn lists_of_changing_counts() {
 
 /// Two counts in turn and in stretches, with empty runs first on the right, between others and in a row.
 fn two_counts(bench: &mut Bench, one: u32, other: u32) {
-    join_in_every_way(bench, &lists::in_turn(one, other, 11));
+    join_in_every_way(bench, &lists::in_turn(one, other, 1, 11));
     join_in_every_way(bench, &[one, one, one, other, other, one, other]);
     join_in_every_way(bench, &[one, 0, other, other, 0, 0, other, one, one]);
     join_in_every_way(bench, &[one, other, other, other, other]);

@@ -27,7 +27,7 @@ pub const CUTS_CHECKED: Topic = topic("cuts over sealed records", 13, 300_000);
 pub const DAMAGE: Topic = topic("damaged records", 14, 20_000);
 pub const ZERO_MASK: Topic = topic("start mask zero", 15, 6_000);
 pub const EQUAL_COUNTS: Topic = topic("joining runs of equal counts", 16, 190_000);
-pub const CHANGING_COUNTS: Topic = topic("joining runs of changing counts", 17, 160_000);
+pub const CHANGING_COUNTS: Topic = topic("joining runs of changing counts", 17, 180_000);
 pub const EVERY_COUNT: Topic = topic("joining by every count", 18, 70_000);
 pub const REFUSED_LISTS: Topic = topic("lists refused within", 19, 20_000);
 
