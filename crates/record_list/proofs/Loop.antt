@@ -39,17 +39,20 @@ right-start = record { right = keeps-none .right; few = omega arith }
 -- ---- one record more keeps a right power
 
 module _ (i : ℕ) where
+  right-later : (k : LastPower) → Right i k → Right (i + 1) k
+  right-later k h = record { right = h .right; few = let f = h .few in omega arith }
+
   right-for : (k : LastPower) (n : ℕ) → Right i k → Right (i + 1) (powerFor k n)
   unfolding powerFor workedOut
   right-for k n h = by (k .some && eqb (k .count) n)
     where
       by : (b : Bool) → Right (i + 1) (cond b k (workedOut k n))
-      by true = record { right = h .right; few = let f = h .few in omega arith }
+      by true = right-later k h
       by false = record { right = λ e. refl; few = let f = h .few in omega arith }
 
   right-after : (a : Answer RunRecord) (k : LastPower) (n : ℕ) → Right i k → Right (i + 1) (keptAfter a k n)
   unfolding keptAfter
-  right-after (refused m) k n h = record { right = h .right; few = let f = h .few in omega arith }
+  right-after (refused m) k n h = right-later k h
   right-after (given r) k n h = right-for k n h
 
   pub right-onto : (s : KeptAnswer) (r : RunRecord) → Right i (s .last) → Right (i + 1) ((ontoOf s r) .last)
@@ -58,7 +61,7 @@ module _ (i : ℕ) where
     where
       by : (b : Bool) → Right (i + 1) ((cond b (joinKeeping (s .answer .run) r (s .last)) (kept (unjoined (s .answer .refusal) r) (s .last))) .last)
       by true = right-after (joinTwo (s .answer .run) r) (s .last) (r .count) h
-      by false = record { right = h .right; few = let f = h .few in omega arith }
+      by false = right-later (s .last) h
 
 -- ---- the loop's invariant
 
