@@ -133,7 +133,8 @@ impl fmt::Debug for RunRecord {
     }
 }
 
-/// Joins records that stand in message order. A list of one gives that record. Runs of one length are joined faster so than two at a time.
+/// Joins records that stand in message order. A list of one gives that record. Runs of one length are joined faster so than two at
+/// a time.
 ///
 /// # Errors
 ///
