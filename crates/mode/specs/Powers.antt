@@ -18,9 +18,13 @@ use Rattle.mode.specs.declared.KeptAnswer.{KeptAnswer}
 abbrev pub noPower : LastPower
 noPower = record { some = false; count = 0; power = zeroBlock; total = 0 }
 
--- what is kept is the variable to the power of its count; and one more can be counted
+-- what is kept is the variable to the power of its count
+abbrev pub IsPower : LastPower → Type 0
+IsPower last = last .some ≡ true → last .power ≡ power (pos (last .count))
+
+-- what is asked of it: that, and that one more can be counted
 pub record Keeps (last : LastPower) : Type 0 where
-  pub right : last .some ≡ true → last .power ≡ power (pos (last .count))
+  pub right : IsPower last
   pub room : last .total + 1 < 2 ^ 64
 
 -- the power for a count, worked out, counted, and kept

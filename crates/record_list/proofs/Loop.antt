@@ -6,17 +6,15 @@ use Prim.Native.Nat.{ℕ, _+_, _≤_, _<_, _^_}
 use native.Mathlib.Omega.{arith}
 use native.Mathlib.Numerals.{add-one}
 use lib.Dec.{eqb}
-use lib.IntN.{pos}
 use lib.ListN.{length, getD, drop, drop-of-length-le}
 use lib.Seq.{drop-cons}
-use Rattle.blocks.specs.Gf128.{power}
 use Rattle.mode.specs.declared.RunRecord.{RunRecord}
 use Rattle.mode.specs.declared.RecordAnswer.{RecordAnswer}
 use Rattle.mode.specs.declared.power.LastPower.{LastPower}
 use Rattle.mode.specs.declared.KeptAnswer.{KeptAnswer}
 use Rattle.mode.specs.Table.{Answer, refused, given}
 use Rattle.mode.specs.Calls.{joinTwo}
-use Rattle.mode.specs.Powers.{noPower, Keeps, workedOut, powerFor, keptAfter, joinKeeping}
+use Rattle.mode.specs.Powers.{noPower, IsPower, Keeps, workedOut, powerFor, keptAfter, joinKeeping}
 use Rattle.mode.proofs.Powers.{keeps-none}
 use Rattle.record_list.specs.Onto.{kept, started, unjoined, ontoOf, ontoAll}
 use Rattle.record_list.specs.Counted.{Counted, powersOf, joinedFront}
@@ -25,7 +23,7 @@ use Rattle.record_list.proofs.Powers.{total-powers, whole-front}
 
 -- the kept power is the variable to its count, and no more were worked out than records were joined on
 pub record Right (i : ℕ) (k : LastPower) : Type 0 where
-  pub right : k .some ≡ true → k .power ≡ power (pos (k .count))
+  pub right : IsPower k
   pub few : k .total ≤ i
 
 -- what the join asks of it
