@@ -10,7 +10,7 @@ use Rattle.fips197.specs.KeyExpansion.{keyExpansion}
 use Rattle.mode.specs.declared.RunRecord.{RunRecord}
 use Rattle.mode.specs.Mode.{Pass, ciphertext, blocksOf, startMask, unbrokenTag, ivPart, cipherPart}
 use Rattle.mode.specs.Aes.{aes}
-use Rattle.mode.specs.Table.{decide, not16, notSealed, beyond, notWhole, tooShort}
+use Rattle.mode.specs.Table.{decide, not16, notSealed, beyond, notWhole, zeroMask, tooShort}
 use Rattle.mode.specs.declared.Written.{Written}
 use Rattle.mode.specs.declared.RunAnswer.{RunAnswer}
 use Rattle.mode.specs.Calls.{Outcome, outcomeBy, blank, plaintextOf, unpadded, notPadded, orEmpty}
@@ -26,19 +26,20 @@ pub record TextSealed (p : Pass) (left : ℕ) (new mask preauthenticator : List 
   pub masked : mask ≡ p .mask
   pub authenticated : preauthenticator ≡ p .preauthenticator
 
--- the rows that go by the record that is closed
-abbrev pub recordRows : RunRecord → List (ℕ × Bool)
-recordRows r = (4, beyond (r .first) (r .count)) ∷ (9, notWhole r) ∷ []
+-- the rows that go by the record that is closed, and by the mask that closes it
+abbrev pub recordRows : List ℕ → List ℕ → RunRecord → List (ℕ × Bool)
+recordRows key iv r = (4, beyond (r .first) (r .count)) ∷ (9, notWhole r) ∷ (10, zeroMask aes key iv) ∷ []
 
--- the rows of a test that go by lengths and numbers: all but 6
+-- the rows of a test that stand before 6
 abbrev pub testFirstRows : List ℕ → List ℕ → RunRecord → List ℕ → List (ℕ × Bool)
-testFirstRows key iv r tag = (1, not16 key) ∷ (2, not16 iv) ∷ (3, not16 tag) ∷ recordRows r
+testFirstRows key iv r tag = (1, not16 key) ∷ (2, not16 iv) ∷ (3, not16 tag) ∷ recordRows key iv r
 
--- the rows of opening that go by lengths: all but 6 and 7
+-- the rows of opening that stand before 6
 abbrev pub openFirstRows : List ℕ → List ℕ → ℕ → List (ℕ × Bool)
 openFirstRows key sealed room =
     (1, not16 key)
     ∷ (3, notSealed sealed)
+    ∷ (10, zeroMask aes key (ivPart sealed))
     ∷ (5, tooShort room (length (cipherPart sealed)))
     ∷ []
 

@@ -15,7 +15,7 @@ ghost use Rattle.calls.specs.Work.{openFirstRows, messageEnd, released, 
 // The shortest sealed record: an IV, a block and a tag.
 const SHORTEST: usize = 48;
 
-// The first of the rows that go by lengths, or 0.
+// The first of the rows that stand before 6, or 0.
 fn open_refusal(key: &[u8], sealed: &[u8], room: usize) -> u8
     ensures { λ n. ⌜ n ≡ firstRow (openFirstRows (now (key .entry)) (now (sealed .entry)) room) ⌝ }
 {
@@ -30,6 +30,9 @@ fn open_refusal(key: &[u8], sealed: &[u8], room: usize) -> u8
     }
     if sealed.len() % 16 != 0 {
         return 3;
+    }
+    if crate::prepare::zero_mask(key, &sealed[..16]) {
+        return 10;
     }
     if room < sealed.len() - 32 {
         return 5;

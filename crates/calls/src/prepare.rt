@@ -1,6 +1,8 @@
 // What every call under a key and an IV begins with.
 ghost use mathlib.Core.Path.{_≡_};
 ghost use lib.ListN.{length};
+ghost use Rattle.mode.specs.Aes.{aes};
+ghost use Rattle.mode.specs.Table.{zeroMask};
 ghost use Rattle.calls.specs.Work.{Prepares};
 
 pub struct Prepared {
@@ -20,4 +22,19 @@ pub fn prepare(key: &[u8], iv: &[u8]) -> Prepared
     let keys = aes::key::expand(k);
     let start = runs::mask::start_mask(v, &keys, sbox);
     Prepared { keys, start }
+}
+
+// Refusal 10: the start mask is still zero after its replacement. That replacement is the key, so only a key of zeros can have one: under any
+// other key nothing is worked out.
+pub fn zero_mask(key: &[u8], iv: &[u8]) -> bool
+    requires { ⌜ length (now key) ≡ 16 ⌝ }
+    requires { ⌜ length (now iv) ≡ 16 ⌝ }
+    ensures { λ b. ⌜ b ≡ zeroMask aes (now (key .entry)) (now (iv .entry)) ⌝ }
+{
+    let k = blocks::block::load(key, 0);
+    if !blocks::block::equal(k, [0u8; 16]) {
+        return false;
+    }
+    let p = prepare(key, iv);
+    blocks::block::equal(p.start, [0u8; 16])
 }

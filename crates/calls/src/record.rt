@@ -8,9 +8,11 @@ ghost use Rattle.mode.specs.Table.{firstRow};
 ghost use Rattle.mode.specs.Calls.{closeRows, closingTag, close as closeOf, test as testOf, tagAnswerOf, number};
 ghost use Rattle.calls.specs.Work.{recordRows, testFirstRows};
 
-// The first of the rows 4 and 9 that holds of a record that is to be closed, or 0.
-fn record_refusal(run: RunRecord) -> u8
-    ensures { λ n. ⌜ n ≡ firstRow (recordRows run) ⌝ }
+// The first of the rows 4, 9 and 10 that holds of a record that is to be closed, or 0.
+fn record_refusal(key: &[u8], iv: &[u8], run: RunRecord) -> u8
+    requires { ⌜ length (now key) ≡ 16 ⌝ }
+    requires { ⌜ length (now iv) ≡ 16 ⌝ }
+    ensures { λ n. ⌜ n ≡ firstRow (recordRows (now (key .entry)) (now (iv .entry)) run) ⌝ }
 {
     if mode::LIMIT < run.first as u64 + run.count as u64 {
         return 4;
@@ -21,12 +23,15 @@ fn record_refusal(run: RunRecord) -> u8
     if run.count == 0 {
         return 9;
     }
+    if crate::prepare::zero_mask(key, iv) {
+        return 10;
+    }
     0
 }
 
 // The first row of the table that holds, or 0.
 fn close_refusal(key: &[u8], iv: &[u8], run: RunRecord) -> u8
-    ensures { λ n. ⌜ n ≡ firstRow (closeRows (now (key .entry)) (now (iv .entry)) run) ⌝ }
+    ensures { λ n. ⌜ n ≡ firstRow (closeRows aes (now (key .entry)) (now (iv .entry)) run) ⌝ }
 {
     if key.len() != 16 {
         return 1;
@@ -34,10 +39,10 @@ fn close_refusal(key: &[u8], iv: &[u8], run: RunRecord) -> u8
     if iv.len() != 16 {
         return 2;
     }
-    record_refusal(run)
+    record_refusal(key, iv, run)
 }
 
-// The first of the rows that go by lengths and numbers, or 0.
+// The first of the rows that stand before 6, or 0.
 fn test_refusal(key: &[u8], iv: &[u8], run: RunRecord, tag: &[u8]) -> u8
     ensures { λ n. ⌜ n ≡ firstRow (testFirstRows (now (key .entry)) (now (iv .entry)) run (now (tag .entry))) ⌝ }
 {
@@ -50,7 +55,7 @@ fn test_refusal(key: &[u8], iv: &[u8], run: RunRecord, tag: &[u8]) -> u8
     if tag.len() != 16 {
         return 3;
     }
-    record_refusal(run)
+    record_refusal(key, iv, run)
 }
 
 // The tag of a whole record: the start mask is jumped by the count.

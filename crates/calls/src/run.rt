@@ -18,7 +18,7 @@ ghost use Rattle.calls.specs.Work.{runGiven, refusedRun};
 
 // The first row of the table that holds, or 0.
 fn seal_run_refusal(key: &[u8], iv: &[u8], first: u32, last: bool, bytes: &[u8], room: usize) -> u8
-    ensures { λ n. ⌜ n ≡ firstRow (sealRunRows (now (key .entry)) (now (iv .entry)) first (kindOf last) (now (bytes .entry)) room) ⌝ }
+    ensures { λ n. ⌜ n ≡ firstRow (sealRunRows aes (now (key .entry)) (now (iv .entry)) first (kindOf last) (now (bytes .entry)) room) ⌝ }
 {
     if key.len() != 16 {
         return 1;
@@ -32,6 +32,9 @@ fn seal_run_refusal(key: &[u8], iv: &[u8], first: u32, last: bool, bytes: &[u8],
     }
     if mode::LIMIT < first as u64 + (size / 16) as u64 {
         return 4;
+    }
+    if crate::prepare::zero_mask(key, iv) {
+        return 10;
     }
     if room < size {
         return 5;
@@ -116,7 +119,7 @@ fn refused(refusal: u8) -> RunAnswer
 
 // The first row of the table that holds, or 0.
 fn check_run_refusal(key: &[u8], iv: &[u8], first: u32, bytes: &[u8]) -> u8
-    ensures { λ n. ⌜ n ≡ firstRow (checkRunRows (now (key .entry)) (now (iv .entry)) first (now (bytes .entry))) ⌝ }
+    ensures { λ n. ⌜ n ≡ firstRow (checkRunRows aes (now (key .entry)) (now (iv .entry)) first (now (bytes .entry))) ⌝ }
 {
     if key.len() != 16 {
         return 1;
@@ -129,6 +132,9 @@ fn check_run_refusal(key: &[u8], iv: &[u8], first: u32, bytes: &[u8]) -> u8
     }
     if mode::LIMIT < first as u64 + (bytes.len() / 16) as u64 {
         return 4;
+    }
+    if crate::prepare::zero_mask(key, iv) {
+        return 10;
     }
     0
 }

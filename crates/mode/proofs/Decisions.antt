@@ -77,23 +77,23 @@ outcome-given-bytes rows a m room e =
 
 -- ---- demand 1
 
-nine : List (ℕ × Bool) → Bool
-nine [] = true
-nine (row ∷ rows) = cond (ltb 0 (row .0)) (cond (ltb (row .0) 10) (nine rows) false) false
+inTable : List (ℕ × Bool) → Bool
+inTable [] = true
+inTable (row ∷ rows) = cond (ltb 0 (row .0)) (cond (ltb (row .0) 11) (inTable rows) false) false
 
-answered : {A : Type 0} (rows : List (ℕ × Bool)) (a : A) → T (nine rows) → Answered (decide rows a)
-unfolding decide nine
+answered : {A : Type 0} (rows : List (ℕ × Bool)) (a : A) → T (inTable rows) → Answered (decide rows a)
+unfolding decide inTable
 answered [] a t = inl (a, refl)
-answered (row ∷ rows) a t = by (ltb 0 (row .0)) (ltb (row .0) 10) (row .1) refl refl t (answered rows a)
+answered (row ∷ rows) a t = by (ltb 0 (row .0)) (ltb (row .0) 11) (row .1) refl refl t (answered rows a)
   where
-    by : (low high holds : Bool) → ltb 0 (row .0) ≡ low → ltb (row .0) 10 ≡ high → T (cond low (cond high (nine rows) false) false)
-        → (T (nine rows) → Answered (decide rows a)) → Answered (cond holds (refused (row .0)) (decide rows a))
-    by true true true l h t rec = inr (row .0, ((ltb-true 0 (row .0) l, (let u = ltb-true (row .0) 10 h in omega (arith, u))), refl))
+    by : (low high holds : Bool) → ltb 0 (row .0) ≡ low → ltb (row .0) 11 ≡ high → T (cond low (cond high (inTable rows) false) false)
+        → (T (inTable rows) → Answered (decide rows a)) → Answered (cond holds (refused (row .0)) (decide rows a))
+    by true true true l h t rec = inr (row .0, ((ltb-true 0 (row .0) l, (let u = ltb-true (row .0) 11 h in omega (arith, u))), refl))
     by true true false l h t rec = rec t
     by true false holds l h t rec = absurd t
     by false high holds l h t rec = absurd t
 
-answered-into : {A : Type 0} (rows : List (ℕ × Bool)) (a : A) (bytes : List ℕ) (room : ℕ) → T (nine rows) → AnsweredInto (outcomeBy (decide rows a) bytes room) room
+answered-into : {A : Type 0} (rows : List (ℕ × Bool)) (a : A) (bytes : List ℕ) (room : ℕ) → T (inTable rows) → AnsweredInto (outcomeBy (decide rows a) bytes room) room
 answered-into {A} rows a bytes room t = by (answered rows a t)
   where
     by : Answered (decide rows a) → AnsweredInto (outcomeBy (decide rows a) bytes room) room
@@ -101,16 +101,16 @@ answered-into {A} rows a bytes room t = by (answered rows a t)
     by (inr r) = inr (r .0, (r .1 .0, outcome-refuses (decide rows a) bytes room (r .0) (r .1 .1)))
 
 pub demand1 : (c : Cipher) → Demand1 c
-unfolding seal openSealed openRows sealRun checkRun joinTwo joinList close test jumpMask nine
+unfolding seal openSealed openRows sealRun checkRun joinTwo joinList close test jumpMask inTable
 demand1 c =
     record {
       of-seal = λ key iv message room. answered-into (sealRows c key iv message room) _ _ room tt;
       of-open = λ key sealed room. answered-into (openRows c key sealed room) _ _ room tt;
-      of-seal-run = λ key iv first kind bytes room. answered-into (sealRunRows key iv first kind bytes room) _ _ room tt;
-      of-check-run = λ key iv first bytes. answered (checkRunRows key iv first bytes) _ tt;
+      of-seal-run = λ key iv first kind bytes room. answered-into (sealRunRows c key iv first kind bytes room) _ _ room tt;
+      of-check-run = λ key iv first bytes. answered (checkRunRows c key iv first bytes) _ tt;
       of-join = λ l r. answered (joinTwoRows l r) _ tt;
       of-join-list = λ rs. answered (joinListRows rs) _ tt;
-      of-close = λ key iv r. answered (closeRows key iv r) _ tt;
+      of-close = λ key iv r. answered (closeRows c key iv r) _ tt;
       of-test = λ key iv r tag. answered (testRows c key iv r tag) tt tt;
       of-jump = λ mask distance room. answered-into (jumpRows mask distance room) _ _ room tt;
     }
@@ -140,11 +140,11 @@ demand2c c =
     record {
       of-seal = λ key iv message room. decided-into (sealRows c key iv message room) _ _ room refl;
       of-open = λ key sealed room. decided-into (openRows c key sealed room) _ _ room refl;
-      of-seal-run = λ key iv first kind bytes room. decided-into (sealRunRows key iv first kind bytes room) _ _ room refl;
-      of-check-run = λ key iv first bytes. decided (checkRunRows key iv first bytes) _ refl;
+      of-seal-run = λ key iv first kind bytes room. decided-into (sealRunRows c key iv first kind bytes room) _ _ room refl;
+      of-check-run = λ key iv first bytes. decided (checkRunRows c key iv first bytes) _ refl;
       of-join = λ l r. decided (joinTwoRows l r) _ refl;
       of-join-list = λ rs. decided (joinListRows rs) _ refl;
-      of-close = λ key iv r. decided (closeRows key iv r) _ refl;
+      of-close = λ key iv r. decided (closeRows c key iv r) _ refl;
       of-test = λ key iv r tag. decided (testRows c key iv r tag) tt refl;
       of-jump = λ mask distance room. decided-into (jumpRows mask distance room) _ _ room refl;
     }

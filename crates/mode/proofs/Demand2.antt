@@ -5,6 +5,7 @@ use mathlib.Core.List.{List, [], _∷_, _++_}
 use mathlib.Core.Option.{Option, some, none as no-message}
 use mathlib.Core.Bool.{Bool, true, false, cond, not, _||_}
 use Prim.Native.Nat.{ℕ, suc, _+_, _*_, _-_, _/_, _%_, _≤_}
+use native.Mathlib.Nat.{le-of-eq}
 use native.Mathlib.Omega.{arith}
 use lib.ListN.{length, drop, replicate, length-append}
 use lib.Seq.{length-take-le}
@@ -16,9 +17,9 @@ use Rattle.blocks.proofs.Chunks.{bytes-take, bytes-drop}
 use Rattle.blocks.proofs.XorBytes.{bytes-xor, xorBytes-cancel}
 use Rattle.blocks.proofs.TimesX.{length-jump, block-timesX}
 use Rattle.mode.specs.Mode.{Cipher, Lawful, plaintext, ciphertext, zeroBlock, encrypt, startMask, middletext, written, pass, unbroken, tagFrom, unbrokenTag, blocksOf, padded, ivPart, cipherPart, tagPart, sealedRecord, UnbrokenCheck}
-use Rattle.mode.specs.Table.{Answer, refused, given, decide, NoneHolds, unaligned, tooLong, notSealed, longestMessage, longestSealed}
+use Rattle.mode.specs.Table.{Answer, refused, given, decide, NoneHolds, unaligned, tooLong, notSealed, zeroMask, longestMessage, longestSealed}
 use Rattle.mode.specs.Calls.{unpadded, notPadded, orEmpty, decrypted, plaintextOf, openRows, openSealed, seal, sealRows, outcomeBy}
-use Rattle.mode.specs.Demands.{Gives, SealedFrom, Demand2a, Demand2b, OpensSealed, Demand2d}
+use Rattle.mode.specs.Demands.{Gives, NonzeroMask, SealedFrom, Demand2a, Demand2b, OpensSealed, Demand2d}
 use Rattle.mode.proofs.Rows.{not-too-long}
 use Rattle.mode.proofs.Decisions.{given-rows, passed-rows, outcome-answer, outcome-gives, outcome-given-bytes}
 use Rattle.mode.proofs.SealedLength.{sealed-length}
@@ -208,6 +209,33 @@ unfolding notPadded orEmpty
 found no-message m e p = not-both (sym e)
 found (some n) m e p = ap (λ (l : List ℕ). some l) p
 
+-- ---- sealing
+
+-- what is known where a record is given
+pub sealing-given : (c : Cipher) (key iv message r : List ℕ) (room : ℕ) → (seal c key iv message room) .answer ≡ given r
+    → NoneHolds (sealRows c key iv message room) × (sealedRecord c key iv message ≡ r)
+unfolding seal
+sealing-given c key iv message r room e =
+    let s = sealedRecord c key iv message in
+    given-rows (sealRows c key iv message room) s r (sym (outcome-answer (decide (sealRows c key iv message room) s) s room) ∙ e)
+
+pub message-fits : (message : List ℕ) → tooLong message ≡ false → length message ≤ longestMessage
+unfolding tooLong
+message-fits message e = ltb-false longestMessage (length message) e
+
+module _ (c : Cipher) (key iv message : List ℕ) (nz : NonzeroMask c key iv) (hk : length key ≡ 16) (hi : length iv ≡ 16) (hm : length message ≤ longestMessage) where
+  seal-gives : (room : ℕ) → length (sealedRecord c key iv message) ≤ room
+      → Gives (seal c key iv message room) (sealedRecord c key iv message) (sealedRecord c key iv message) room
+  unfolding seal
+  seal-gives room hr =
+      let s = sealedRecord c key iv message in
+      outcome-gives (decide (sealRows c key iv message room) s) s s room
+      (passed-rows (sealRows c key iv message room) s (is16 key hk, (is16 iv hi, (not-too-long message hm, (nz, (le-ltb room (length s) hr, tt))))))
+
+  -- with room for the record that the formulas give
+  seals-to : (r : List ℕ) → sealedRecord c key iv message ≡ r → (seal c key iv message (length r)) .answer ≡ given r
+  seals-to r e = (seal-gives (length r) (le-of-eq (ap length e))) .answers ∙ ap (λ (x : List ℕ). given x) e
+
 module _ (c : Cipher) (laws : Lawful c) (key : List ℕ) (kb : Block key) where
   -- a message that is opened was sealed
   open-sound : (sealed m : List ℕ) (room : ℕ) → Bytes sealed → (openSealed c key sealed room) .answer ≡ given m → SealedFrom c key sealed m
@@ -217,11 +245,7 @@ module _ (c : Cipher) (laws : Lawful c) (key : List ℕ) (kb : Block key) where
         iv = iv;
         iv-block = ib;
         m-bytes = bytes-left-of (subst Bytes (sym padded-is) (bytes-concat bs bs-good));
-        m-fits =
-            let n : 16 * (length m / 16 + 1) ≡ 16 * length bs = sym (length-padded m) ∙ ap length padded-is ∙ length-concat bs bs-good in
-            let k : length bs ≡ (length sealed - 32) / 16 = length-opened c laws key kb cs mask ∙ count-middle (cipherPart sealed) ∙ ap (λ (n : ℕ). n / 16) (cipher-length sealed (lens .0)) in
-            omega (arith, lens .1);
-        record-is = whole;
+        seals = seals-to c key iv m (rows .0 .1 .1 .0) (kb .long) (ib .long) m-fits sealed whole;
       }
     where
       rows : NoneHolds (openRows c key sealed room) × (orEmpty (unpadded (plaintextOf c key sealed)) ≡ m)
@@ -256,7 +280,7 @@ module _ (c : Cipher) (laws : Lawful c) (key : List ℕ) (kb : Block key) where
 
       padded-is : padded m ≡ concat (openedBlocks c laws key kb (blocksOf (cipherPart sealed)) (startMask c key (ivPart sealed)))
       padded-is =
-          unpad-sound 16 (plaintextOf c key sealed) m (unfold unpadded in (found (unpadded (plaintextOf c key sealed)) m (rows .0 .1 .1 .1 .1 .0) (rows .1)))
+          unpad-sound 16 (plaintextOf c key sealed) m (unfold unpadded in (found (unpadded (plaintextOf c key sealed)) m (rows .0 .1 .1 .1 .1 .1 .0) (rows .1)))
           ∙ plain-is
         where
           plain-is : plaintextOf c key sealed ≡ concat (openedBlocks c laws key kb (blocksOf (cipherPart sealed)) (startMask c key (ivPart sealed)))
@@ -277,7 +301,13 @@ module _ (c : Cipher) (laws : Lawful c) (key : List ℕ) (kb : Block key) where
       tag-is : unbrokenTag c plaintext key iv bs ≡ tagPart sealed
       tag-is =
           sym (same-tag c laws key kb iv ib bs bs-good) ∙ ap (unbrokenTag c ciphertext key iv) back
-          ∙ same-true (unbrokenTag c ciphertext key iv cs) (tagPart sealed) (not-false (same (unbrokenTag c ciphertext key iv cs) (tagPart sealed)) (rows .0 .1 .1 .1 .0))
+          ∙ same-true (unbrokenTag c ciphertext key iv cs) (tagPart sealed) (not-false (same (unbrokenTag c ciphertext key iv cs) (tagPart sealed)) (rows .0 .1 .1 .1 .1 .0))
+
+      m-fits : length m ≤ longestMessage
+      m-fits =
+          let n : 16 * (length m / 16 + 1) ≡ 16 * length bs = sym (length-padded m) ∙ ap length padded-is ∙ length-concat bs bs-good in
+          let k : length bs ≡ (length sealed - 32) / 16 = length-opened c laws key kb cs mask ∙ count-middle (cipherPart sealed) ∙ ap (λ (n : ℕ). n / 16) (cipher-length sealed (lens .0)) in
+          omega (arith, lens .1)
 
       whole : sealedRecord c key (ivPart sealed) m ≡ sealed
       whole =
@@ -290,10 +320,13 @@ module _ (c : Cipher) (laws : Lawful c) (key : List ℕ) (kb : Block key) where
   open-complete : (sealed m : List ℕ) (room : ℕ) → length (cipherPart sealed) ≤ room → SealedFrom c key sealed m → (openSealed c key sealed room) .answer ≡ given m
   unfolding orEmpty
   open-complete sealed m room h f =
-      subst (λ (r : List ℕ). length (cipherPart r) ≤ room → (openSealed c key r room) .answer ≡ given m) (f .record-is) by h
+      subst (λ (r : List ℕ). length (cipherPart r) ≤ room → (openSealed c key r room) .answer ≡ given m) (g .1) by h
     where
       iv : List ℕ
       iv = f .iv
+
+      g : NoneHolds (sealRows c key (f .iv) m (length sealed)) × (sealedRecord c key (f .iv) m ≡ sealed)
+      g = sealing-given c key (f .iv) m sealed (length sealed) (f .seals)
 
       bs : List (List ℕ)
       bs = blocksOf (padded m)
@@ -348,7 +381,10 @@ module _ (c : Cipher) (laws : Lawful c) (key : List ℕ) (kb : Block key) where
           ∙ omega arith
 
       fine : notSealed r ≡ false
-      fine = lengths-sealed r (rw r-long (omega arith)) (rw r-long (omega (arith, f .m-fits))) (rw r-long (omega arith))
+      fine = lengths-sealed r (rw r-long (omega arith)) (rw r-long (omega (arith, message-fits m (g .0 .1 .1 .0)))) (rw r-long (omega arith))
+
+      masked : zeroMask c key (ivPart r) ≡ false
+      masked = ap (zeroMask c key) iv-is ∙ g .0 .1 .1 .1 .0
 
       tag-same : same (unbrokenTag c ciphertext key (ivPart r) (blocksOf (cipherPart r))) (tagPart r) ≡ true
       tag-same =
@@ -374,7 +410,7 @@ module _ (c : Cipher) (laws : Lawful c) (key : List ℕ) (kb : Block key) where
           (outcome-answer (decide (openRows c key r room) (orEmpty (unpadded (plaintextOf c key r)))) _ room
           ∙ passed-rows (openRows c key r room) (orEmpty (unpadded (plaintextOf c key r)))
           (unfold openRows notPadded in
-          (is16 key (kb .long), (fine, (le-ltb room (length (cipherPart r)) h, (ap not tag-same, (ap notPadded message-is, tt))))))
+          (is16 key (kb .long), (fine, (masked, (le-ltb room (length (cipherPart r)) h, (ap not tag-same, (ap notPadded message-is, tt)))))))
           ∙ ap (λ (o : Option (List ℕ)). given (orEmpty o)) message-is)
 
 -- DEMAND 2 (a)
@@ -383,10 +419,7 @@ unfolding seal
 demand2a c laws =
     record {
       gives = λ key iv message r room e. outcome-given-bytes (sealRows c key iv message room) (sealedRecord c key iv message) r room e;
-      seals = λ key iv message room hk hi hm hr.
-          let s = sealedRecord c key iv message in
-          outcome-gives (decide (sealRows c key iv message room) s) s s room
-          (passed-rows (sealRows c key iv message room) s (is16 key hk, (is16 iv hi, (not-too-long message hm, (le-ltb room (length s) hr, tt)))));
+      seals = λ key iv message room nz hk hi hm hr. seal-gives c key iv message nz hk hi hm room hr;
       long = λ key iv message hk hi. sealed-length c laws key hk iv hi message ∙ omega arith;
     }
 
@@ -404,17 +437,21 @@ demand2b c laws =
 
 -- what sealing gave is opened again
 pub opens-sealed : (c : Cipher) → Lawful c → OpensSealed c
-unfolding seal tooLong
 opens-sealed c laws key iv message r room lent kb ib mb e h =
-    let g = given-rows (sealRows c key iv message room) (sealedRecord c key iv message) r (sym (outcome-answer (decide (sealRows c key iv message room) (sealedRecord c key iv message)) (sealedRecord c key iv message) room) ∙ e) in
+    let g = sealing-given c key iv message r room e in
     let n : length r ≡ 16 * (length message / 16 + 1) + 32 = ap length (sym (g .1)) ∙ (demand2a c laws) .long key iv message (kb .long) (ib .long) in
     demand2b c laws .all-sealed key r message lent kb (rw (cipher-length r (omega arith)) h)
-    (record { iv = iv; iv-block = ib; m-bytes = mb; m-fits = ltb-false longestMessage (length message) (g .0 .1 .1 .0); record-is = g .1 })
+    (record {
+      iv = iv;
+      iv-block = ib;
+      m-bytes = mb;
+      seals = seals-to c key iv message (g .0 .1 .1 .1 .0) (kb .long) (ib .long) (message-fits message (g .0 .1 .1 .0)) r (g .1);
+    })
 
 -- DEMAND 2 (d)
 pub demand2d : (c : Cipher) → Demand2d c
 unfolding UnbrokenCheck
-demand2d c key sealed kl ns = (to, from)
+demand2d c key sealed nz kl ns = (to, from)
   where
     tag : List ℕ
     tag = unbrokenTag c ciphertext key (ivPart sealed) (blocksOf (cipherPart sealed))
@@ -428,9 +465,9 @@ demand2d c key sealed kl ns = (to, from)
     answer-is : (openSealed c key sealed room) .answer ≡ decide (openRows c key sealed room) m
     answer-is = unfold openSealed in (outcome-answer (decide (openRows c key sealed room) m) _ room)
 
-    -- rows 1, 3 and 5 do not hold
+    -- rows 1, 3, 10 and 5 do not hold
     rest : decide (openRows c key sealed room) m ≡ decide ((6, not (same tag (tagPart sealed))) ∷ (7, notPadded (unpadded (plaintextOf c key sealed))) ∷ []) m
-    rest = unfold openRows decide in rw (is16 key kl, ns, le-ltb room room (omega arith))
+    rest = unfold openRows decide in rw (is16 key kl, ns, nz, le-ltb room room (omega arith))
 
     to : tag ≡ tagPart sealed
         → ((m : List ℕ) × ((openSealed c key sealed room) .answer ≡ given m)) ⊎ ((openSealed c key sealed room) .answer ≡ refused 7)

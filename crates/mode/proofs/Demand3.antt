@@ -12,10 +12,10 @@ use lib.Dec.{eqb, leb}
 use borrow.Author.Tests.{eq-eqb, ne-eqb, eqb-true, le-leb, lt-leb}
 use Rattle.blocks.specs.Bytes.{same, concat}
 use Rattle.mode.specs.Mode.{Cipher, Lawful, ciphertext, RunRecord, pass, unbroken, unbrokenTag, tagFrom, recordOf, startMask, blocksOf, padded, zeroBlock, cipherPart, tagPart, UnbrokenCheck}
-use Rattle.mode.specs.Table.{Answer, refused, given, decide, beyond, anyBeyond, apart, none, notWhole, limit}
+use Rattle.mode.specs.Table.{Answer, refused, given, decide, beyond, anyBeyond, apart, none, notWhole, zeroMask, limit}
 use Rattle.mode.specs.Calls.{Kind, middle, last, blocksOfRun, unalignedRun, Outcome, outcomeBy, joined, joinedOnto, joinedAll, joinTwo, joinList, closingTag, close, test, callsOf}
 use Rattle.mode.specs.Parallel.{Work, sealing, checking, sourceOf, ivOf, textOf, lastKind, allBlocks, Fits, Cut, Setting, WellFormed, Run, runsFrom, Segment, pending, recorded, blocksOfRuns, runsIn, recordIn, bytesIn, isRecorded, runsOf, bytesOfSegments, blocksIn, noSegment, segment, Call, runAt, joinPair, joinMany, consecutive, AllRecorded, recordsAt, Allowed, mergeBy, recordBy, headOr, firstRun, empties, start, roomOf, outcomeOfRun, runOutcome, answerOf, after, afterAll, EachCall}
-use Rattle.mode.specs.Demands.{whole, wholeTag, recordOfSegments, ciphertextOfSegment, ExpectedOfRun, ExpectedOfJoin, Expected, TestedAs, Whole, Demand3}
+use Rattle.mode.specs.Demands.{NonzeroMask, whole, wholeTag, recordOfSegments, ciphertextOfSegment, ExpectedOfRun, ExpectedOfJoin, Expected, TestedAs, Whole, Demand3}
 use Rattle.mode.proofs.Decisions.{outcome-gives, outcome-refuses}
 use Rattle.mode.proofs.Laws.{AllLong, all-left, all-right, mask-there}
 use Rattle.mode.proofs.Blocks.{blocksOf-append, long-blocks, padded-append, count-middle, count-last, aligned, run-long}
@@ -152,9 +152,9 @@ last-row true n = (λ e. refl, λ e. refl)
 last-row false n = (λ e. absurd (let z : _≡_ {A = ℕ} 0 1 = cc in omega arith), λ e. absurd (let z : _≡_ {A = ℕ} 0 1 = cc in omega arith))
 
 -- what holds at every moment: each segment is sound, and together they have all blocks
-record Inv (c : Cipher) (s : Setting) (xs : List Segment) : Type 0 where
-  sound : Sound c (s .key) (s .work) [] xs
-  blocks-are : blocksIn xs ≡ allBlocks (s .work)
+pub record Inv (c : Cipher) (s : Setting) (xs : List Segment) : Type 0 where
+  pub sound : Sound c (s .key) (s .work) [] xs
+  pub blocks-are : blocksIn xs ≡ allBlocks (s .work)
 
 module _ (c : Cipher) (laws : Lawful c) (s : Setting) (wf : WellFormed s) where
   abbrev w : Work
@@ -163,7 +163,7 @@ module _ (c : Cipher) (laws : Lawful c) (s : Setting) (wf : WellFormed s) where
   abbrev key : List ℕ
   key = s .key
 
-  start-inv : Inv c s (start s)
+  pub start-inv : Inv c s (start s)
   unfolding start
   start-inv =
       record {
@@ -193,16 +193,22 @@ module _ (c : Cipher) (laws : Lawful c) (s : Setting) (wf : WellFormed s) where
     blocks-one : (i : ℕ) → i < length xs → blocksIn (take 1 (drop i xs)) ≡ blocksOfRuns (runsIn (segment xs i))
     blocks-one i h = ap blocksIn (one-there xs i h) ∙ blocksIn-one (segment xs i)
 
-    -- a run
-    run-is : (i room : ℕ) → i < length xs → isRecorded (segment xs i) ≡ false
+    -- what a run is answered: by whether the start mask is zero, and whether there is room
+    abbrev pub answerBy : ℕ → Bool → Bool → Answer RunRecord
+    answerBy i zeroed fits = cond zeroed (refused 10) (cond fits (given (recordOfSegments c s xs i 1)) (refused 5))
+
+    abbrev enough : ℕ → ℕ → Bool
+    enough i room = leb (length (ciphertextOfSegment c s xs i)) (roomOf w room)
+
+    pub run-is : (i room : ℕ) → i < length xs → isRecorded (segment xs i) ≡ false
         → runOutcome (callsOf c) s xs i room
-        ≡ outcomeBy (cond (leb (length (ciphertextOfSegment c s xs i)) (roomOf w room)) (given (recordOfSegments c s xs i 1)) (refused 5))
+        ≡ outcomeBy (answerBy i (zeroMask c key (ivOf w)) (enough i room))
         (ciphertextOfSegment c s xs i) (roomOf w room)
     unfolding runOutcome recordOfSegments firstRun runsIn
     run-is i room h e =
         ap (λ (x : Segment). outcomeOfRun (callsOf c) key w (firstRun (runsIn x)) room) is
         ∙ run-outcome c laws key (wf .key-long) w (wf .fits) before r room good bound
-        ∙ ap₂ (λ (o : List ℕ) (a : RunRecord). outcomeBy (cond (leb (length o) (roomOf w room)) (given a) (refused 5)) o (roomOf w room))
+        ∙ ap₂ (λ (o : List ℕ) (a : RunRecord). outcomeBy (cond (zeroMask c key (ivOf w)) (refused 10) (cond (leb (length o) (roomOf w room)) (given a) (refused 5))) o (roomOf w room))
         (ap (outputOf c key w before) (sym these) ∙ sym (ciphertext-there i)) (ap (recordFor c key w before) (sym these))
       where
         before : List (List ℕ)
@@ -233,18 +239,22 @@ module _ (c : Cipher) (laws : Lawful c) (s : Setting) (wf : WellFormed s) where
               length-append (blocksIn (take 1 (drop i xs))) (blocksIn (drop 1 (drop i xs))),
             )
 
-    run-expected : (i room : ℕ) → i < length xs → isRecorded (segment xs i) ≡ false → ExpectedOfRun c (callsOf c) s xs i room
-    run-expected i room h e =
+    -- where it is not
+    run-masked : NonzeroMask c key (ivOf w) → (i room : ℕ) → i < length xs → isRecorded (segment xs i) ≡ false
+        → runOutcome (callsOf c) s xs i room ≡ outcomeBy (answerBy i false (enough i room)) (ciphertextOfSegment c s xs i) (roomOf w room)
+    run-masked nz i room h e =
+        run-is i room h e
+        ∙ ap (λ (z : Bool). outcomeBy (answerBy i z (enough i room)) (ciphertextOfSegment c s xs i) (roomOf w room)) nz
+
+    run-expected : NonzeroMask c key (ivOf w) → (i room : ℕ) → i < length xs → isRecorded (segment xs i) ≡ false → ExpectedOfRun c (callsOf c) s xs i room
+    run-expected nz i room h e =
         record {
-          with-room = λ l. rw (run-is i room h e) (outcome-gives _ (recordOfSegments c s xs i 1) text (roomOf w room) (ap answer (le-leb (length text) (roomOf w room) l)));
-          too-short = λ l. rw (run-is i room h e) (outcome-refuses _ text (roomOf w room) 5 (ap answer (lt-leb (length text) (roomOf w room) l)));
+          with-room = λ l. rw (run-masked nz i room h e) (outcome-gives _ (recordOfSegments c s xs i 1) text (roomOf w room) (ap (answerBy i false) (le-leb (length text) (roomOf w room) l)));
+          too-short = λ l. rw (run-masked nz i room h e) (outcome-refuses _ text (roomOf w room) 5 (ap (answerBy i false) (lt-leb (length text) (roomOf w room) l)));
         }
       where
         text : List ℕ
         text = ciphertextOfSegment c s xs i
-
-        answer : Bool → Answer RunRecord
-        answer t = cond t (given (recordOfSegments c s xs i 1)) (refused 5)
 
     put-inv : (i : ℕ) (r : RunRecord) (bytes : List ℕ) → i < length xs → r ≡ recordOfSegments c s xs i 1 → bytes ≡ ciphertextOfSegment c s xs i
         → Inv c s (set xs i (recorded (runsIn (segment xs i)) r bytes))
@@ -274,7 +284,7 @@ module _ (c : Cipher) (laws : Lawful c) (s : Setting) (wf : WellFormed s) where
         )
 
     run-inv : (i : ℕ) (room : ℕ) → i < length xs → (o : Outcome RunRecord) (t : Bool)
-        → o ≡ outcomeBy (cond t (given (recordOfSegments c s xs i 1)) (refused 5)) (ciphertextOfSegment c s xs i) room → Inv c s (recordBy (o .answer) o xs i)
+        → o ≡ outcomeBy (answerBy i false t) (ciphertextOfSegment c s xs i) room → Inv c s (recordBy (o .answer) o xs i)
     run-inv i room h o true e =
         subst (λ (o : Outcome RunRecord). Inv c s (recordBy (o .answer) o xs i)) (sym e)
         (unfold recordBy outcomeBy in
@@ -388,20 +398,20 @@ module _ (c : Cipher) (laws : Lawful c) (s : Setting) (wf : WellFormed s) where
     refused-inv a n i k e = subst (λ (a : Answer RunRecord). Inv c s (mergeBy a xs i k)) (sym e) (unfold mergeBy in inv)
 
     -- one call
-    step : (call : Call) → Allowed xs call → Expected c (callsOf c) s xs call × Inv c s (after (callsOf c) s xs call)
+    step : NonzeroMask c key (ivOf w) → (call : Call) → Allowed xs call → Expected c (callsOf c) s xs call × Inv c s (after (callsOf c) s xs call)
     unfolding Allowed after answerOf
-    step (runAt i room) m = (
-      unfold Expected in run-expected i room (m .0) (m .1),
-      run-inv i (roomOf w room) (m .0) (runOutcome (callsOf c) s xs i room) (leb (length (ciphertextOfSegment c s xs i)) (roomOf w room)) (run-is i room (m .0) (m .1)),
+    step nz (runAt i room) m = (
+      unfold Expected in run-expected nz i room (m .0) (m .1),
+      run-inv i (roomOf w room) (m .0) (runOutcome (callsOf c) s xs i room) (enough i room) (run-masked nz i room (m .0) (m .1)),
     )
-    step (joinPair i j) m = (unfold Expected answerOf in pair-expected i j (m .0), by (m .1))
+    step nz (joinPair i j) m = (unfold Expected answerOf in pair-expected i j (m .0), by (m .1))
       where
         by : (j ≡ suc i) ⊎ (apart (recordsAt xs (i ∷ j ∷ [])) ≡ true) → Inv c s (mergeBy (joinTwo (recordIn (segment xs i)) (recordIn (segment xs j))) xs i 2)
         by (inl e) =
             merge-inv i 1 (joinTwo (recordIn (segment xs i)) (recordIn (segment xs j)))
             (unfold consecutive in (subst (λ (j : ℕ). AllRecorded xs (i ∷ j ∷ [])) e (m .0))) (pair-neighbours i j (m .0) e)
         by (inr e) = refused-inv (joinTwo (recordIn (segment xs i)) (recordIn (segment xs j))) 8 i 2 (pair-apart i j (m .0) e)
-    step (joinMany is) m = (
+    step nz (joinMany is) m = (
       unfold Expected answerOf in (record { neighbours = list-neighbours is (m .0); empty = list-empty is; others = list-apart is (m .0) }),
       by (m .1),
     )
@@ -420,13 +430,13 @@ module _ (c : Cipher) (laws : Lawful c) (s : Setting) (wf : WellFormed s) where
         by (inr (inr e)) = refused-inv (joinList (recordsAt xs is)) 8 (headOr 0 is) (length is) (list-apart is (m .0) e)
 
   -- any list of calls
-  steps : (xs : List Segment) (calls : List Call) → Inv c s xs → EachCall (callsOf c) s Allowed xs calls
+  steps : NonzeroMask c key (ivOf w) → (xs : List Segment) (calls : List Call) → Inv c s xs → EachCall (callsOf c) s Allowed xs calls
       → EachCall (callsOf c) s (Expected c (callsOf c) s) xs calls × Inv c s (afterAll (callsOf c) s xs calls)
   unfolding EachCall afterAll
-  steps xs [] inv m = (tt, inv)
-  steps xs (call ∷ calls) inv m =
-      let one = step xs inv call (m .0) in
-      let rest = steps (after (callsOf c) s xs call) calls (one .1) (m .1) in
+  steps nz xs [] inv m = (tt, inv)
+  steps nz xs (call ∷ calls) inv m =
+      let one = step xs inv nz call (m .0) in
+      let rest = steps nz (after (callsOf c) s xs call) calls (one .1) (m .1) in
       ((one .0, rest .0), rest .1)
 
   -- every record and every ciphertext
@@ -460,14 +470,14 @@ module _ (c : Cipher) (laws : Lawful c) (s : Setting) (wf : WellFormed s) where
   unfolding recordOf
   not-beyond = within 0 (length (allBlocks w)) (let h : length (allBlocks w) ≤ limit = in-limit w (wf .fits) in omega arith)
 
-  closed : close c key (ivOf w) (recordFor c key w [] (allBlocks w)) ≡ given (wholeTag c s)
+  closed : NonzeroMask c key (ivOf w) → close c key (ivOf w) (recordFor c key w [] (allBlocks w)) ≡ given (wholeTag c s)
   unfolding close decide
-  closed =
-      rw (is16 key (wf .key-long), is16 (ivOf w) (iv-long w (wf .fits)), not-beyond, not-part) (ap (λ (t : List ℕ). given t) closing)
+  closed nz =
+      rw (is16 key (wf .key-long), is16 (ivOf w) (iv-long w (wf .fits)), not-beyond, not-part, nz) (ap (λ (t : List ℕ). given t) closing)
 
   -- a tag of 16 bytes passes exactly when it is the unbroken one
-  tested : (tag : List ℕ) → length tag ≡ 16 → (test c key (ivOf w) (recordFor c key w [] (allBlocks w)) tag ≡ given tt) ↔ (wholeTag c s ≡ tag)
-  tested tag h = (
+  tested : NonzeroMask c key (ivOf w) → (tag : List ℕ) → length tag ≡ 16 → (test c key (ivOf w) (recordFor c key w [] (allBlocks w)) tag ≡ given tt) ↔ (wholeTag c s ≡ tag)
+  tested nz tag h = (
     λ e. sym closing ∙ same-true (closingTag c key (ivOf w) (recordFor c key w [] (allBlocks w))) tag ((last-row (same (closingTag c key (ivOf w) (recordFor c key w [] (allBlocks w))) tag) 6) .0 (sym rows ∙ e)),
     λ e. rows ∙ (last-row (same (closingTag c key (ivOf w) (recordFor c key w [] (allBlocks w))) tag) 6) .1
         (subst (λ (t : List ℕ). same (closingTag c key (ivOf w) (recordFor c key w [] (allBlocks w))) t ≡ true) (closing ∙ e) (same-self (closingTag c key (ivOf w) (recordFor c key w [] (allBlocks w))))),
@@ -477,7 +487,7 @@ module _ (c : Cipher) (laws : Lawful c) (s : Setting) (wf : WellFormed s) where
           ≡ decide ((6, not (same (closingTag c key (ivOf w) (recordFor c key w [] (allBlocks w))) tag)) ∷ []) tt
       rows =
           unfold test decide in
-          rw (is16 key (wf .key-long), is16 (ivOf w) (iv-long w (wf .fits)), is16 tag h, not-beyond, not-part)
+          rw (is16 key (wf .key-long), is16 (ivOf w) (iv-long w (wf .fits)), is16 tag h, not-beyond, not-part, nz)
 
   tag-long : (sealed : List ℕ) → Fits (checking sealed) → length (tagPart sealed) ≡ 16
   unfolding Fits tagPart
@@ -491,12 +501,12 @@ module _ (c : Cipher) (laws : Lawful c) (s : Setting) (wf : WellFormed s) where
   tested-as (checking sealed) fit r h = h (tagPart sealed) (tag-long sealed fit)
 
   -- a single record is the whole one
-  single-whole : (rs : List Run) (r : RunRecord) (bytes : List ℕ) → Inv c s (recorded rs r bytes ∷ []) → Whole c (callsOf c) s r bytes
-  single-whole rs r bytes inv =
+  single-whole : NonzeroMask c key (ivOf w) → (rs : List Run) (r : RunRecord) (bytes : List ℕ) → Inv c s (recorded rs r bytes ∷ []) → Whole c (callsOf c) s r bytes
+  single-whole nz rs r bytes inv =
       record {
         ciphertext-whole = inv .sound .0 .1 ∙ ap (outputOf c key w []) all ∙ sym (unfold whole in (unbroken-output c laws key (wf .key-long) w (wf .fits) (allBlocks w)));
-        closes-whole = rw is closed;
-        tests-whole = tested-as w (wf .fits) r (rw is (unfold wholeTag in tested));
+        closes-whole = rw is (closed nz);
+        tests-whole = tested-as w (wf .fits) r (rw is (unfold wholeTag in (tested nz)));
       }
     where
       all : blocksOfRuns rs ≡ allBlocks w
@@ -510,14 +520,14 @@ module _ (c : Cipher) (laws : Lawful c) (s : Setting) (wf : WellFormed s) where
 
 -- DEMAND 3
 pub demand3 : (c : Cipher) → Lawful c → Demand3 c (callsOf c)
-demand3 c laws s wf calls may =
+demand3 c laws s nz wf calls may =
     record {
       answers = all .0;
       blocks-are = all .1 .blocks-are;
       records = λ i e. (record-there c laws s wf (afterAll (callsOf c) s (start s) calls) (all .1) i e) .0;
       ciphertexts = λ i e. (record-there c laws s wf (afterAll (callsOf c) s (start s) calls) (all .1) i e) .1;
-      single = λ rs r bytes e. single-whole c laws s wf rs r bytes (subst (Inv c s) e (all .1));
+      single = λ rs r bytes e. single-whole c laws s wf nz rs r bytes (subst (Inv c s) e (all .1));
     }
   where
     all : EachCall (callsOf c) s (Expected c (callsOf c) s) (start s) calls × Inv c s (afterAll (callsOf c) s (start s) calls)
-    all = steps c laws s wf (start s) calls (start-inv c laws s wf) may
+    all = steps c laws s wf nz (start s) calls (start-inv c laws s wf) may

@@ -17,6 +17,7 @@ pub mod Powers
 pub mod Records
 pub mod Demand2
 pub mod Demand3
+pub mod ZeroMask
 pub mod NoDifference
 pub mod SignedJump
 pub mod Demands

@@ -18,18 +18,17 @@ use Rattle.mode.specs.Parallel.{sealing, checking, lastKind, textOf, Fit
 use Rattle.mode.specs.Demands.{InTable, JumpsTo, SignedJump}
 use Rattle.mode.proofs.Passed.{has-16}
 use Rattle.mode.proofs.Decisions.{given-rows, outcome-answer}
-use Rattle.mode.proofs.Demand2.{sealed-lengths}
+use Rattle.mode.proofs.Demand2.{sealing-given, message-fits, sealed-lengths}
 
 -- ---- what may be cut
 
 -- every message that the call seals, under its key and IV, in any cut
 pub message-cut : (c : Cipher) (key iv message r : List ℕ) (room : ℕ) → (seal c key iv message room) .answer ≡ given r
     → (pieces : List (List ℕ)) → Cut last pieces → concat pieces ≡ message → WellFormed (record { key = key; work = sealing iv message; pieces = pieces })
-unfolding seal Fits lastKind textOf tooLong
+unfolding Fits lastKind textOf
 message-cut c key iv message r room e pieces h p =
-    let s = sealedRecord c key iv message in
-    let rows = (given-rows (sealRows c key iv message room) s r (sym (outcome-answer (decide (sealRows c key iv message room) s) s room) ∙ e)) .0 in
-    record { key-long = has-16 key (rows .0); fits = (has-16 iv (rows .1 .0), ltb-false longestMessage (length message) (rows .1 .1 .0)); cut = h; pieces-are = p }
+    let rows = (sealing-given c key iv message r room e) .0 in
+    record { key-long = has-16 key (rows .0); fits = (has-16 iv (rows .1 .0), message-fits message (rows .1 .1 .0)); cut = h; pieces-are = p }
 
 -- every record of a length that opening takes, genuine or not, in any cut of its ciphertext
 pub record-cut : (key sealed : List ℕ) → length key ≡ 16 → notSealed sealed ≡ false
@@ -104,7 +103,7 @@ range = (refl, refl, refl, refl)
 -- ---- the table's order
 
 abbrev documentOrder : List ℕ
-documentOrder = 1 ∷ 2 ∷ 3 ∷ 4 ∷ 8 ∷ 9 ∷ 5 ∷ 6 ∷ 7 ∷ []
+documentOrder = 1 ∷ 2 ∷ 3 ∷ 4 ∷ 8 ∷ 9 ∷ 10 ∷ 5 ∷ 6 ∷ 7 ∷ []
 
 pub rowsOf : List ℕ → List (ℕ × Bool)
 rowsOf [] = []
@@ -133,10 +132,10 @@ pub not-in-table : inOrder tableOrder (rowsOf (0 ∷ [])) ≡ false
 unfolding inOrder rowsOf
 not-in-table = refl
 
-pub not-after-table : inOrder tableOrder (rowsOf (7 ∷ 10 ∷ [])) ≡ false
+pub not-after-table : inOrder tableOrder (rowsOf (7 ∷ 11 ∷ [])) ≡ false
 unfolding inOrder rowsOf
 not-after-table = refl
 
 -- demand 1 bounds the numbers to the table's
-pub only-nine : (n : ℕ) → InTable n → (n ≡ 0 → ⊥) × (n < 10)
-only-nine n h = (λ e. omega arith, omega arith)
+pub only-ten : (n : ℕ) → InTable n → (n ≡ 0 → ⊥) × (n < 11)
+only-ten n h = (λ e. omega arith, omega arith)

@@ -16,7 +16,7 @@ use Rattle.blocks.proofs.XorBytes.{xorBytes-assoc, xorBytes-zeros}
 use Rattle.blocks.proofs.TimesX.{jump-xor, jump-add, length-jump, block-jump}
 use Rattle.mode.specs.Mode.{Cipher, Lawful, plaintext, ciphertext, RunRecord, zeroBlock, startMask, blocksOf, padded}
 use Rattle.mode.specs.Table.{Answer, refused, given, decide, NoneHolds, not16, unaligned, beyond, anyBeyond, apart, limit, none}
-use Rattle.mode.specs.Calls.{unalignedRun, joined, joinedOnto, joinedAll, joinList, Kind, middle, last, blocksOfRun, outcomeBy, passFrom, runRecord, sealRun, checkRun}
+use Rattle.mode.specs.Calls.{unalignedRun, joined, joinedOnto, joinedAll, joinList, Kind, middle, last, blocksOfRun, outcomeBy, passFrom, runRecord, sealRun, sealRunRows, checkRun, checkRunRows}
 use Rattle.mode.proofs.Laws.{same-record}
 use Rattle.mode.proofs.Blocks.{length-padded, aligned}
 use Rattle.mode.proofs.Runs.{is16}
@@ -96,8 +96,7 @@ checked-as-sealed c laws key iv kb ib first kind bytes room hb r e =
     bs = blocksOfRun kind bytes
 
     rows : List (ℕ × Bool)
-    rows =
-        (1, not16 key) ∷ (2, not16 iv) ∷ (3, unalignedRun kind bytes) ∷ (4, beyond first (length (blocksOfRun kind bytes))) ∷ (5, ltb room (16 * length (blocksOfRun kind bytes))) ∷ []
+    rows = sealRunRows c key iv first kind bytes room
 
     text : List ℕ
     text = (passFrom c plaintext key iv first (blocksOfRun kind bytes)) .output
@@ -146,5 +145,5 @@ checked-as-sealed c laws key iv kb ib first kind bytes room hb r e =
     passes : checkRun c key iv first text ≡ given (runRecord c ciphertext key iv first (blocksOf text))
     passes =
         unfold checkRun in
-        passed-rows ((1, not16 key) ∷ (2, not16 iv) ∷ (3, unaligned text) ∷ (4, beyond first (length (blocksOf text))) ∷ []) (runRecord c ciphertext key iv first (blocksOf text))
-        (is16 key (kb .long), (is16 iv (ib .long), (aligned text text-aligned, (four, tt))))
+        passed-rows (checkRunRows c key iv first text) (runRecord c ciphertext key iv first (blocksOf text))
+        (is16 key (kb .long), (is16 iv (ib .long), (aligned text text-aligned, (four, (g .0 .1 .1 .1 .1 .0, tt)))))

@@ -33,7 +33,7 @@ module _ (m : Calls) (d : Demand3 toy m) where
   -- (a run is allowed, whatever the calls answer)
   one : (room : ℕ) → Agrees toy m onePiece (runAt 0 room ∷ []) (afterAll m onePiece (start onePiece) (runAt 0 room ∷ []))
   unfolding computed
-  one room = d onePiece onePiece-formed (runAt 0 room ∷ []) ((lit< tt, refl), tt)
+  one room = d onePiece refl onePiece-formed (runAt 0 room ∷ []) ((lit< tt, refl), tt)
 
   -- with room, sealing gives this record and this ciphertext
   run-forced : Gives (m .seals-run aKey anIv 0 last [] 16) oneRecord oneText 16
@@ -75,20 +75,20 @@ module _ (m : Calls) (d : Demand3 toy m) where
   unfolding computed
   check-forced =
       sym (outcome-answer (m .checks-run aKey (replicate 16 7) 0 (replicate 16 7)) [] 0)
-      ∙ (d twoChecked twoChecked-formed (runAt 0 0 ∷ []) ((lit< tt, refl), tt)) .answers .0 .with-room (lit≤ tt) .answers
+      ∙ (d twoChecked refl twoChecked-formed (runAt 0 0 ∷ []) ((lit< tt, refl), tt)) .answers .0 .with-room (lit≤ tt) .answers
 
   check-forced-later : m .checks-run aKey (replicate 16 7) 1 (replicate 16 7) ≡ given (record { first = 1; count = 1; preauthenticator = replicate 16 11 })
   unfolding computed
   check-forced-later =
       sym (outcome-answer (m .checks-run aKey (replicate 16 7) 1 (replicate 16 7)) [] 0)
-      ∙ (d twoChecked twoChecked-formed (runAt 1 0 ∷ []) ((lit< tt, refl), tt)) .answers .0 .with-room (lit≤ tt) .answers
+      ∙ (d twoChecked refl twoChecked-formed (runAt 1 0 ∷ []) ((lit< tt, refl), tt)) .answers .0 .with-room (lit≤ tt) .answers
 
 -- ---- tests, of a sealed record that is checked in one run
 
 module _ (m : Calls) (d : Demand3 toy m) (byte : ℕ) where
   checked-one : Agrees toy m (oneChecked byte) (runAt 0 0 ∷ []) (afterAll m (oneChecked byte) (start (oneChecked byte)) (runAt 0 0 ∷ []))
   unfolding computed
-  checked-one = d (oneChecked byte) (oneChecked-formed byte) (runAt 0 0 ∷ []) ((lit< tt, refl), tt)
+  checked-one = d (oneChecked byte) refl (oneChecked-formed byte) (runAt 0 0 ∷ []) ((lit< tt, refl), tt)
 
   check-forced-whole : m .checks-run aKey anIv 0 oneText ≡ given oneRecord
   unfolding computed
@@ -130,7 +130,7 @@ module _ (two : RunRecord → RunRecord → Answer RunRecord) (many : List RunRe
   expected : (call : Call) → Allowed rack call → Expected toy (joiningBy two many) threePieces rack call
   unfolding computed
   expected call a =
-      (d threePieces threePieces-formed (runAt 0 16 ∷ runAt 1 16 ∷ runAt 2 16 ∷ call ∷ []) ((lit< tt, refl), ((lit< tt, refl), ((lit< tt, refl), (a, tt))))) .answers .1 .1 .1 .0
+      (d threePieces refl threePieces-formed (runAt 0 16 ∷ runAt 1 16 ∷ runAt 2 16 ∷ call ∷ []) ((lit< tt, refl), ((lit< tt, refl), ((lit< tt, refl), (a, tt))))) .answers .1 .1 .1 .0
 
   -- two neighbours, at the first place and at a later one; two records that are none, at a later place
   pair-forced : two record0 record1 ≡ given (record { first = 0; count = 2; preauthenticator = replicate 16 1 })
@@ -241,7 +241,7 @@ room-ignored-refuted d = no-answer 5 oneRecord (sym (short-forced (sealingBy roo
 
 -- a checker that runs the wrong half
 pub wrongHalf : List ℕ → List ℕ → ℕ → List ℕ → Answer RunRecord
-wrongHalf key iv first bytes = decide (checkRunRows key iv first bytes) (runRecord toy plaintext key iv first (blocksOf bytes))
+wrongHalf key iv first bytes = decide (checkRunRows toy key iv first bytes) (runRecord toy plaintext key iv first (blocksOf bytes))
 
 abbrev checkingBy : (List ℕ → List ℕ → ℕ → List ℕ → Answer RunRecord) → Calls
 checkingBy checks = record { seals-run = sealRun toy; checks-run = checks; joins-two = joinTwo; joins-list = joinList; closes = close toy; tests = test toy }
@@ -254,7 +254,7 @@ wrong-half-refuted d =
 
 -- a checker that takes every run for the first
 pub alwaysFirst : List ℕ → List ℕ → ℕ → List ℕ → Answer RunRecord
-alwaysFirst key iv first bytes = decide (checkRunRows key iv first bytes) (record { first = first; count = 1; preauthenticator = (passFrom toy ciphertext key iv 0 (blocksOf bytes)) .preauthenticator })
+alwaysFirst key iv first bytes = decide (checkRunRows toy key iv first bytes) (record { first = first; count = 1; preauthenticator = (passFrom toy ciphertext key iv 0 (blocksOf bytes)) .preauthenticator })
 
 pub always-first-refuted : Demand3 toy (checkingBy alwaysFirst) → ⊥
 unfolding computed alwaysFirst
@@ -306,7 +306,7 @@ wrong-number-later-refuted d =
 
 -- a closer that takes the mask before the last block, not after it
 pub maskBefore : List ℕ → List ℕ → RunRecord → Answer (List ℕ)
-maskBefore key iv r = decide (closeRows key iv r) (tagFrom toy key (r .preauthenticator) (jump (r .count - 1) (startMask toy key iv)))
+maskBefore key iv r = decide (closeRows toy key iv r) (tagFrom toy key (r .preauthenticator) (jump (r .count - 1) (startMask toy key iv)))
 
 abbrev closingBy : (List ℕ → List ℕ → RunRecord → Answer (List ℕ)) → (List ℕ → List ℕ → RunRecord → List ℕ → Answer (Unit {0})) → Calls
 closingBy closes tests = record { seals-run = sealRun toy; checks-run = checkRun toy; joins-two = joinTwo; joins-list = joinList; closes = closes; tests = tests }

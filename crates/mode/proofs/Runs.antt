@@ -13,8 +13,8 @@ use Rattle.blocks.specs.Bytes.{xorBytes}
 use Rattle.blocks.specs.Gf128.{timesX, jump}
 use Rattle.blocks.proofs.TimesX.{length-timesX, length-jump, jump-add}
 use Rattle.mode.specs.Mode.{Cipher, Lawful, Source, plaintext, ciphertext, RunRecord, zeroBlock, startMask, middletext, written, pass, unbroken, recordOf, blocksOf, ivPart}
-use Rattle.mode.specs.Table.{Answer, refused, given, decide, not16, beyond, limit}
-use Rattle.mode.specs.Calls.{unalignedRun, Kind, middle, last, blocksOfRun, outcomeBy, passFrom, runRecord, sealRun, checkRun, callsOf}
+use Rattle.mode.specs.Table.{Answer, refused, given, decide, not16, beyond, zeroMask, limit}
+use Rattle.mode.specs.Calls.{unalignedRun, Kind, middle, last, blocksOfRun, outcomeBy, passFrom, runRecord, sealRun, sealRunRows, checkRun, callsOf}
 use Rattle.mode.specs.Parallel.{Work, sealing, checking, sourceOf, ivOf, Fits, Run, roomOf, outcomeOfRun}
 use Rattle.mode.proofs.Laws.{AllLong, all-left, all-right, same-record, output-append, start-long, mask-there, middle-long, xor-long}
 use Rattle.mode.proofs.Blocks.{run-long}
@@ -148,7 +148,8 @@ module _ (c : Cipher) (laws : Lawful c) (key : List ℕ) (key-long : length key 
 
   check-rows : (kind : Kind) (sealed : List ℕ) (r : Run) → Fits (checking sealed) → kind ≡ middle → unalignedRun kind (r .bytes) ≡ false
       → r .first + length (blocksOfRun kind (r .bytes)) ≤ limit
-      → checkRun c key (ivPart sealed) (r .first) (r .bytes) ≡ given (runRecord c ciphertext key (ivPart sealed) (r .first) (blocksOfRun kind (r .bytes)))
+      → checkRun c key (ivPart sealed) (r .first) (r .bytes)
+      ≡ cond (zeroMask c key (ivPart sealed)) (refused 10) (given (runRecord c ciphertext key (ivPart sealed) (r .first) (blocksOfRun kind (r .bytes))))
   unfolding checkRun decide blocksOfRun unalignedRun ivOf
   check-rows middle sealed r fit e al bd =
       let b : beyond (r .first) (length (blocksOf (r .bytes))) ≡ false = within (r .first) (length (blocksOf (r .bytes))) bd in
@@ -160,16 +161,18 @@ module _ (c : Cipher) (laws : Lawful c) (key : List ℕ) (key-long : length key 
       → length before + length (blocksOfRun (r .kind) (r .bytes)) ≤ limit
       → outcomeOfRun (callsOf c) key w r room
       ≡ outcomeBy
+      (cond (zeroMask c key (ivOf w)) (refused 10)
       (cond (leb (length (outputOf c key w before (blocksOfRun (r .kind) (r .bytes)))) (roomOf w room))
-      (given (recordFor c key w before (blocksOfRun (r .kind) (r .bytes)))) (refused 5))
+      (given (recordFor c key w before (blocksOfRun (r .kind) (r .bytes)))) (refused 5)))
       (outputOf c key w before (blocksOfRun (r .kind) (r .bytes))) (roomOf w room)
   unfolding outcomeOfRun roomOf sealRun decide ivOf sourceOf Suits
   run-outcome (sealing iv message) fit before r room good bound =
       ap₂ (λ (a : Answer RunRecord) (o : List ℕ). outcomeBy a o room)
       (rows
-      ∙ ap₂ (λ (t : Bool) (x : RunRecord). cond t (refused 5) (given x)) (turned (16 * n) room) (run-record w fit before bs (r .first) (good .starts))
+      ∙ ap (cond (zeroMask c key iv) (refused 10))
+      (ap₂ (λ (t : Bool) (x : RunRecord). cond t (refused 5) (given x)) (turned (16 * n) room) (run-record w fit before bs (r .first) (good .starts))
       ∙ turned-cond (leb (16 * n) room) (refused 5) (given (recordFor c key w before bs))
-      ∙ ap (λ (k : ℕ). cond (leb k room) (given (recordFor c key w before bs)) (refused 5)) (sym out-long))
+      ∙ ap (λ (k : ℕ). cond (leb k room) (given (recordFor c key w before bs)) (refused 5)) (sym out-long)))
       (run-output w fit before bs (r .first) (good .starts))
     where
       w : Work
@@ -181,8 +184,8 @@ module _ (c : Cipher) (laws : Lawful c) (key : List ℕ) (key-long : length key 
       n : ℕ
       n = length bs
 
-      rows : decide ((1, not16 key) ∷ (2, not16 iv) ∷ (3, unalignedRun (r .kind) (r .bytes)) ∷ (4, beyond (r .first) n) ∷ (5, ltb room (16 * n)) ∷ []) (runRecord c plaintext key iv (r .first) bs)
-          ≡ cond (ltb room (16 * n)) (refused 5) (given (runRecord c plaintext key iv (r .first) bs))
+      rows : decide (sealRunRows c key iv (r .first) (r .kind) (r .bytes) room) (runRecord c plaintext key iv (r .first) bs)
+          ≡ cond (zeroMask c key iv) (refused 10) (cond (ltb room (16 * n)) (refused 5) (given (runRecord c plaintext key iv (r .first) bs)))
       rows =
           let b : beyond (r .first) n ≡ false = within (r .first) n (rw (good .starts) bound) in
           rw (is16 key key-long, is16 iv (iv-long w fit), good .is-aligned, b)
@@ -195,7 +198,7 @@ module _ (c : Cipher) (laws : Lawful c) (key : List ℕ) (key-long : length key 
   run-outcome (checking sealed) fit before r room good bound =
       rw nothing
       (ap (λ (a : Answer RunRecord). outcomeBy a [] 0)
-      (check-rows (r .kind) sealed r fit (good .suits) (good .is-aligned) (rw (good .starts) bound) ∙ ap (λ (x : RunRecord). given x) (run-record w fit before bs (r .first) (good .starts))))
+      (check-rows (r .kind) sealed r fit (good .suits) (good .is-aligned) (rw (good .starts) bound) ∙ ap (λ (x : RunRecord). cond (zeroMask c key (ivPart sealed)) (refused 10) (given x)) (run-record w fit before bs (r .first) (good .starts))))
     where
       w : Work
       w = checking sealed

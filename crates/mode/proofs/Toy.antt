@@ -8,7 +8,7 @@ use Rattle.blocks.specs.Bytes.{xorBytes, firstBlocks, same, concat}
 use Rattle.blocks.specs.Gf128.{timesX, jump, carry, shiftLeft, reduction}
 use Rattle.blocks.proofs.XorBytes.{xorBytes-cancel, block-xor}
 use Rattle.mode.specs.Mode.{Cipher, Lawful, blocksOf, padded, encrypt, startMask, middletext, written, pass, unbroken, recordOf, ivPart, cipherPart, tagPart, tagFrom, unbrokenTag, sealedRecord}
-use Rattle.mode.specs.Table.{decide, not16, unaligned, beyond, anyBeyond, apart, none, notWhole, notSealed}
+use Rattle.mode.specs.Table.{decide, not16, unaligned, beyond, anyBeyond, apart, none, notWhole, notSealed, zeroMask}
 use Rattle.mode.specs.Calls.{unalignedRun, blocksOfRun, outcomeBy, joined, joinedOnto, joinedAll, joinTwo, joinList, passFrom, runRecord, sealRun, checkRun, closingTag, close, test, openSealed, openRows, notPadded, orEmpty, unpadded, unpadFrom, plaintextOf, decrypted}
 use Rattle.mode.specs.Parallel.{sealing, checking, sourceOf, ivOf, textOf, lastKind, allBlocks, Fits, Cut, Setting, WellFormed, runsFrom, blocksOfRuns, runsIn, recordIn, bytesIn, isRecorded, runsOf, bytesOfSegments, blocksIn, consecutive, AllRecorded, Allowed, mergeBy, recordBy, headOr, firstRun, empties, start, roomOf, outcomeOfRun, runOutcome, answerOf, after, afterAll, EachCall}
 use Rattle.mode.specs.Demands.{whole, wholeTag, recordOfSegments, ciphertextOfSegment, Expected, TestedAs}
@@ -37,7 +37,7 @@ toy-lawful =
 
 -- to unfold this is to unfold all that a small case computes by
 unfoldable pub computed : Unit {0}
-unfolding xorBytes firstBlocks same concat timesX jump carry shiftLeft reduction blocksOf padded encrypt startMask middletext written pass unbroken recordOf ivPart cipherPart tagPart tagFrom unbrokenTag sealedRecord decide not16 unaligned beyond anyBeyond apart none notWhole notSealed unalignedRun blocksOfRun outcomeBy joined joinedOnto joinedAll joinTwo joinList passFrom runRecord sealRun checkRun closingTag close test openSealed openRows notPadded orEmpty unpadded unpadFrom plaintextOf decrypted sourceOf ivOf textOf lastKind allBlocks Fits Cut runsFrom blocksOfRuns runsIn recordIn bytesIn isRecorded runsOf bytesOfSegments blocksIn consecutive AllRecorded Allowed mergeBy recordBy headOr firstRun empties start roomOf outcomeOfRun runOutcome answerOf after afterAll EachCall whole wholeTag recordOfSegments ciphertextOfSegment Expected TestedAs
+unfolding xorBytes firstBlocks same concat timesX jump carry shiftLeft reduction blocksOf padded encrypt startMask middletext written pass unbroken recordOf ivPart cipherPart tagPart tagFrom unbrokenTag sealedRecord decide not16 unaligned beyond anyBeyond apart none notWhole notSealed zeroMask unalignedRun blocksOfRun outcomeBy joined joinedOnto joinedAll joinTwo joinList passFrom runRecord sealRun checkRun closingTag close test openSealed openRows notPadded orEmpty unpadded unpadFrom plaintextOf decrypted sourceOf ivOf textOf lastKind allBlocks Fits Cut runsFrom blocksOfRuns runsIn recordIn bytesIn isRecorded runsOf bytesOfSegments blocksIn consecutive AllRecorded Allowed mergeBy recordBy headOr firstRun empties start roomOf outcomeOfRun runOutcome answerOf after afterAll EachCall whole wholeTag recordOfSegments ciphertextOfSegment Expected TestedAs
 computed = tt
 
 abbrev pub aKey : List ℕ

@@ -61,7 +61,7 @@ allowed = (
 
 -- so demand 3 says something of it
 agrees : Agrees toy (callsOf toy) fourPieces calls (afterAll (callsOf toy) fourPieces (start fourPieces) calls)
-agrees = demand3 toy toy-lawful fourPieces fourPieces-formed calls allowed
+agrees = demand3 toy toy-lawful fourPieces (unfold computed in refl) fourPieces-formed calls allowed
 
 numbers : List Segment → List Call → List ℕ
 numbers xs [] = []

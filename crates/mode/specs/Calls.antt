@@ -8,7 +8,7 @@ use lib.IntN.{ℤ}
 use Rattle.blocks.specs.Bytes.{xorBytes, same, zeros}
 use Rattle.blocks.specs.Gf128.{timesX, jump, jumpBy}
 use Rattle.mode.specs.Mode.{Cipher, Source, plaintext, ciphertext, Pass, RunRecord, blocksOf, padded, zeroBlock, startMask, middletext, pass, tagFrom, unbrokenTag, sealedRecord, ivPart, cipherPart, tagPart}
-use Rattle.mode.specs.Table.{Answer, refused, given, decide, not16, unaligned, tooLong, notSealed, beyond, anyBeyond, tooFar, apart, none, notWhole, tooShort}
+use Rattle.mode.specs.Table.{Answer, refused, given, decide, not16, unaligned, tooLong, notSealed, beyond, anyBeyond, tooFar, apart, none, notWhole, zeroMask, tooShort}
 -- the code's answers, as it declares them
 pub use Rattle.mode.specs.declared.Written.{Written}
 pub use Rattle.mode.specs.declared.RunAnswer.{RunAnswer}
@@ -40,24 +40,26 @@ unfoldable pub unalignedRun : Kind → List ℕ → Bool
 unalignedRun middle bytes = unaligned bytes
 unalignedRun last bytes = false
 
-abbrev pub sealRunRows : List ℕ → List ℕ → ℕ → Kind → List ℕ → ℕ → List (ℕ × Bool)
-sealRunRows key iv first kind bytes room =
-    (1, not16 key)
-    ∷ (2, not16 iv)
-    ∷ (3, unalignedRun kind bytes)
-    ∷ (4, beyond first (length (blocksOfRun kind bytes)))
-    ∷ (5, tooShort room (16 * length (blocksOfRun kind bytes)))
-    ∷ []
-
-abbrev pub checkRunRows : List ℕ → List ℕ → ℕ → List ℕ → List (ℕ × Bool)
-checkRunRows key iv first bytes =
-    (1, not16 key)
-    ∷ (2, not16 iv)
-    ∷ (3, unaligned bytes)
-    ∷ (4, beyond first (length (blocksOf bytes)))
-    ∷ []
-
 module _ (c : Cipher) where
+  abbrev pub sealRunRows : List ℕ → List ℕ → ℕ → Kind → List ℕ → ℕ → List (ℕ × Bool)
+  sealRunRows key iv first kind bytes room =
+      (1, not16 key)
+      ∷ (2, not16 iv)
+      ∷ (3, unalignedRun kind bytes)
+      ∷ (4, beyond first (length (blocksOfRun kind bytes)))
+      ∷ (10, zeroMask c key iv)
+      ∷ (5, tooShort room (16 * length (blocksOfRun kind bytes)))
+      ∷ []
+
+  abbrev pub checkRunRows : List ℕ → List ℕ → ℕ → List ℕ → List (ℕ × Bool)
+  checkRunRows key iv first bytes =
+      (1, not16 key)
+      ∷ (2, not16 iv)
+      ∷ (3, unaligned bytes)
+      ∷ (4, beyond first (length (blocksOf bytes)))
+      ∷ (10, zeroMask c key iv)
+      ∷ []
+
   -- step 2 over a run that starts at block `first`: its mask is the start mask jumped by `first`
   unfoldable pub passFrom : Source → List ℕ → List ℕ → ℕ → List (List ℕ) → Pass
   passFrom s key iv first blocks = pass c s key blocks (jump first (startMask c key iv)) zeroBlock
@@ -111,15 +113,16 @@ joinListRows rs = (4, anyBeyond rs) ∷ (8, apart rs) ∷ (9, none rs) ∷ []
 unfoldable pub joinList : List RunRecord → Answer RunRecord
 joinList rs = decide (joinListRows rs) (joinedAll rs)
 
-abbrev pub closeRows : List ℕ → List ℕ → RunRecord → List (ℕ × Bool)
-closeRows key iv r =
-    (1, not16 key)
-    ∷ (2, not16 iv)
-    ∷ (4, beyond (r .first) (r .count))
-    ∷ (9, notWhole r)
-    ∷ []
-
 module _ (c : Cipher) where
+  abbrev pub closeRows : List ℕ → List ℕ → RunRecord → List (ℕ × Bool)
+  closeRows key iv r =
+      (1, not16 key)
+      ∷ (2, not16 iv)
+      ∷ (4, beyond (r .first) (r .count))
+      ∷ (9, notWhole r)
+      ∷ (10, zeroMask c key iv)
+      ∷ []
+
   -- the tag of a whole record
   unfoldable pub closingTag : List ℕ → List ℕ → RunRecord → List ℕ
   closingTag key iv r = tagFrom c key (r .preauthenticator) (jump (r .count) (startMask c key iv))
@@ -136,6 +139,7 @@ module _ (c : Cipher) where
       ∷ (3, not16 tag)
       ∷ (4, beyond (r .first) (r .count))
       ∷ (9, notWhole r)
+      ∷ (10, zeroMask c key iv)
       ∷ (6, not (same (closingTag key iv r) tag))
       ∷ []
 
@@ -171,6 +175,7 @@ module _ (c : Cipher) where
       (1, not16 key)
       ∷ (2, not16 iv)
       ∷ (3, tooLong message)
+      ∷ (10, zeroMask c key iv)
       ∷ (5, tooShort room (length (sealedRecord c key iv message)))
       ∷ []
 
@@ -191,6 +196,7 @@ module _ (c : Cipher) where
   openRows key sealed room =
       (1, not16 key)
       ∷ (3, notSealed sealed)
+      ∷ (10, zeroMask c key (ivPart sealed))
       ∷ (5, tooShort room (length (cipherPart sealed)))
       ∷ (6, not (same (unbrokenTag c ciphertext key (ivPart sealed) (blocksOf (cipherPart sealed))) (tagPart sealed)))
       ∷ (7, notPadded (unpadded (plaintextOf key sealed)))

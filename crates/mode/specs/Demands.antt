@@ -6,17 +6,18 @@
 use mathlib.Core.Path.{_≡_}
 use mathlib.Core.Logic.{_⊎_, _↔_}
 use mathlib.Core.List.{List, [], _∷_, _++_}
-use mathlib.Core.Bool.{Bool, true, false}
-use Prim.Native.Nat.{ℕ, suc, _+_, _*_, _-_, _/_, _≤_, _<_}
+use mathlib.Core.Bool.{Bool, true, false, cond}
+use Prim.Native.Nat.{ℕ, suc, _+_, _*_, _-_, _/_, _%_, _≤_, _<_}
 use lib.ListN.{length, take, drop}
 use lib.IntN.{ℤ, pos, negsuc, negℤ, natAbs, _+ℤ_}
+use lib.Dec.{eqb}
 use Rattle.blocks.specs.Bytes.{Bytes, Block, zeros, xorBytes}
 use Rattle.blocks.specs.Gf128.{jump, overX, jumpBy}
 use Rattle.fips197.specs.KeyExpansion.{roundKeys}
 use Rattle.fips197.specs.Cipher.{cipher, invCipher, afterRound}
 use Rattle.mode.specs.Mode.{Cipher, Source, plaintext, ciphertext, Pass, RunRecord, blocksOf, padded, zeroBlock, startMask, encrypt, pass, tagFrom, unbroken, unbrokenTag, recordOf, ivPart, cipherPart, tagPart, sealedRecord, UnbrokenCheck}
-use Rattle.mode.specs.Table.{Answer, refused, given, tableOrder, inOrder, NoneHolds, Decides, apart, notSealed, limit, longestMessage}
-use Rattle.mode.specs.Calls.{Outcome, Kind, blocksOfRun, seal, sealRows, openSealed, openRows, unpadded, orEmpty, plaintextOf, sealRun, sealRunRows, checkRun, checkRunRows, joinTwo, joinTwoRows, joinList, joinListRows, joinedAll, close, closeRows, test, testRows, jumpMask, jumpRows, Calls, callsOf}
+use Rattle.mode.specs.Table.{Answer, refused, given, decide, tableOrder, inOrder, NoneHolds, Decides, apart, notSealed, notWhole, zeroMask, limit, longestMessage}
+use Rattle.mode.specs.Calls.{Outcome, outcomeBy, Kind, blocksOfRun, unalignedRun, seal, sealRows, openSealed, openRows, unpadded, orEmpty, plaintextOf, passFrom, runRecord, sealRun, sealRunRows, checkRun, checkRunRows, joinTwo, joinTwoRows, joinList, joinListRows, joinedAll, closingTag, close, closeRows, test, testRows, jumpMask, jumpRows, Calls, callsOf}
 use Rattle.mode.specs.Parallel.{Work, sealing, checking, sourceOf, ivOf, allBlocks, Setting, WellFormed, Run, Segment, recorded, recordIn, bytesIn, isRecorded, blocksIn, segment, Call, runAt, joinPair, joinMany, consecutive, recordsAt, Allowed, start, roomOf, runOutcome, answerOf, afterAll, EachCall}
 
 -- ---- THE CIPHER is FIPS 197's AES-128: keys of 4 words, 10 rounds
@@ -44,10 +45,10 @@ pub record Refuses {A : Type 0} (o : Outcome A) (n room : ℕ) : Type 0 where
   pub reports : o .reported ≡ 0
   pub writes : o .output ≡ zeros room
 
--- ---- DEMAND 1. Whatever is handed in, a call gives its answer or one of the nine numbers; with a number, a lent output is zero.
+-- ---- DEMAND 1. Whatever is handed in, a call gives its answer or one of the ten numbers; with a number, a lent output is zero.
 
 abbrev pub InTable : ℕ → Type 0
-InTable n = (1 ≤ n) × (n ≤ 9)
+InTable n = (1 ≤ n) × (n ≤ 10)
 
 abbrev pub Answered : {A : Type 0} → Answer A → Type 0
 Answered {A} a = ((x : A) × (a ≡ given x)) ⊎ ((n : ℕ) × (InTable n × (a ≡ refused n)))
@@ -66,13 +67,20 @@ pub record Demand1 (c : Cipher) : Type 0 where
   pub of-test : (key iv : List ℕ) (r : RunRecord) (tag : List ℕ) → Answered (test c key iv r tag)
   pub of-jump : (mask : List ℕ) (distance : ℤ) (room : ℕ) → AnsweredInto (jumpMask mask distance room) room
 
+-- ---- WHAT DEMANDS 2 AND 3 LEAVE OUT (ticket P3): a key and an IV whose start mask is still zero after its replacement. This is asked where
+-- something is to be given: to seal (2 a), to compare opening with the unbroken check (2 d), and of the rack (3). What the calls do with
+-- such a pair is `ZeroMask` and `ZeroMaskRack`, below.
+
+abbrev pub NonzeroMask : Cipher → List ℕ → List ℕ → Type 0
+NonzeroMask c key iv = zeroMask c key iv ≡ false
+
 -- ---- DEMAND 2 (a). Sealing gives the record of the published mode, 16 j + 32 bytes for j blocks, and zeros beyond it; a message within the
 -- limit, with a key and an IV of 16 bytes and with room, is sealed.
 
 pub record Demand2a (c : Cipher) : Type 0 where
   pub gives : (key iv message r : List ℕ) (room : ℕ) → (seal c key iv message room) .answer ≡ given r
       → (r ≡ sealedRecord c key iv message) × Gives (seal c key iv message room) r r room
-  pub seals : (key iv message : List ℕ) (room : ℕ) → length key ≡ 16 → length iv ≡ 16 → length message ≤ longestMessage
+  pub seals : (key iv message : List ℕ) (room : ℕ) → NonzeroMask c key iv → length key ≡ 16 → length iv ≡ 16 → length message ≤ longestMessage
       → length (sealedRecord c key iv message) ≤ room → Gives (seal c key iv message room) (sealedRecord c key iv message) (sealedRecord c key iv message) room
   pub long : (key iv message : List ℕ) → length key ≡ 16 → length iv ≡ 16
       → length (sealedRecord c key iv message) ≡ 16 * (length message / 16 + 1) + 32
@@ -80,13 +88,12 @@ pub record Demand2a (c : Cipher) : Type 0 where
 -- ---- DEMAND 2 (b). Opening gives the message m, its length, and m followed by zeros, exactly where m was sealed to that very record. It gives
 -- no other message, whatever was lent; and with as much output as there is ciphertext it gives m.
 
--- some IV of 16 bytes and the message m, within the limit, seal to exactly this record
+-- sealing the message m under some IV, with room for this record, is not refused and gives this very record
 pub record SealedFrom (c : Cipher) (key sealed m : List ℕ) : Type 0 where
   pub iv : List ℕ
   pub iv-block : Block iv
   pub m-bytes : Bytes m
-  pub m-fits : length m ≤ longestMessage
-  pub record-is : sealedRecord c key iv m ≡ sealed
+  pub seals : (seal c key iv m (length sealed)) .answer ≡ given sealed
 
 pub record Demand2b (c : Cipher) : Type 0 where
   pub only-sealed : (key sealed m : List ℕ) (room : ℕ) → Block key → Bytes sealed → (openSealed c key sealed room) .answer ≡ given m
@@ -130,16 +137,16 @@ module _ (c : Cipher) where
     pub of-open : (key sealed : List ℕ) (room : ℕ)
         → DecidedInto (openRows c key sealed room) (openSealed c key sealed room) (orEmpty (unpadded (plaintextOf c key sealed))) (orEmpty (unpadded (plaintextOf c key sealed))) room
     pub of-seal-run : (key iv : List ℕ) (first : ℕ) (kind : Kind) (bytes : List ℕ) (room : ℕ)
-        → DecidedInto (sealRunRows key iv first kind bytes room) (sealRun c key iv first kind bytes room)
+        → DecidedInto (sealRunRows c key iv first kind bytes room) (sealRun c key iv first kind bytes room)
         (stepTwoRecord plaintext key iv first (blocksOfRun kind bytes)) ((stepTwo plaintext key iv first (blocksOfRun kind bytes)) .output) room
     pub of-check-run : (key iv : List ℕ) (first : ℕ) (bytes : List ℕ)
-        → Decided (checkRunRows key iv first bytes) (checkRun c key iv first bytes) (stepTwoRecord ciphertext key iv first (blocksOf bytes))
+        → Decided (checkRunRows c key iv first bytes) (checkRun c key iv first bytes) (stepTwoRecord ciphertext key iv first (blocksOf bytes))
     pub of-join : (l r : RunRecord)
         → Decided (joinTwoRows l r) (joinTwo l r)
         (record { first = l .first; count = l .count + r .count; preauthenticator = xorBytes (jump (r .count) (l .preauthenticator)) (r .preauthenticator) })
     pub of-join-list : (rs : List RunRecord) → Decided (joinListRows rs) (joinList rs) (joinedAll rs)
     pub of-close : (key iv : List ℕ) (r : RunRecord)
-        → Decided (closeRows key iv r) (close c key iv r) (tagFrom c key (r .preauthenticator) (closingMask key iv r))
+        → Decided (closeRows c key iv r) (close c key iv r) (tagFrom c key (r .preauthenticator) (closingMask key iv r))
     pub of-test : (key iv : List ℕ) (r : RunRecord) (tag : List ℕ) → Decided (testRows c key iv r tag) (test c key iv r tag) tt
     pub of-jump : (mask : List ℕ) (distance : ℤ) (room : ℕ)
         → DecidedInto (jumpRows mask distance room) (jumpMask mask distance room) (jumpBy distance mask) (jumpBy distance mask) room
@@ -148,7 +155,7 @@ module _ (c : Cipher) where
 
 abbrev pub Demand2d : Cipher → Type 0
 Demand2d c =
-    (key sealed : List ℕ) → length key ≡ 16 → notSealed sealed ≡ false
+    (key sealed : List ℕ) → NonzeroMask c key (ivPart sealed) → length key ≡ 16 → notSealed sealed ≡ false
     → UnbrokenCheck c key sealed
     ↔ (((m : List ℕ) × ((openSealed c key sealed (length (cipherPart sealed))) .answer ≡ given m))
     ⊎ ((openSealed c key sealed (length (cipherPart sealed))) .answer ≡ refused 7))
@@ -223,7 +230,7 @@ module _ (c : Cipher) (m : Calls) where
   -- rack.
   abbrev pub Demand3 : Type 0
   Demand3 =
-      (s : Setting) → WellFormed s → (calls : List Call) → EachCall m s Allowed (start s) calls → Agrees s calls (afterAll m s (start s) calls)
+      (s : Setting) → NonzeroMask c (s .key) (ivOf (s .work)) → WellFormed s → (calls : List Call) → EachCall m s Allowed (start s) calls → Agrees s calls (afterAll m s (start s) calls)
 
 -- ---- beside demand 2
 
@@ -232,6 +239,54 @@ abbrev pub OpensSealed : Cipher → Type 0
 OpensSealed c =
     (key iv message r : List ℕ) (room lent : ℕ) → Block key → Block iv → Bytes message → (seal c key iv message room) .answer ≡ given r
     → length r - 32 ≤ lent → Gives (openSealed c key r lent) message message lent
+
+-- ---- beside demand 2: A ZERO START MASK (ticket P3)
+
+-- the zero block through the cipher run backwards, under the zero key
+abbrev pub zeroMaskIv : Cipher → List ℕ
+zeroMaskIv c = c .firstHalfBack zeroBlock (c .secondHalfBack zeroBlock zeroBlock)
+
+pub record ZeroMask (c : Cipher) : Type 0 where
+  -- the start mask is still zero exactly where the key is zero and the encryption of the IV under it is zero
+  pub exactly : (key iv : List ℕ) → length key ≡ 16 → length iv ≡ 16 → (zeroMask c key iv ≡ true) ↔ ((key ≡ zeroBlock) × (encrypt c key iv ≡ zeroBlock))
+  -- under the zero key there is such an IV, and no other
+  pub one-iv : Block (zeroMaskIv c) × (zeroMask c zeroBlock (zeroMaskIv c) ≡ true)
+  pub no-other : (iv : List ℕ) → Block iv → zeroMask c zeroBlock iv ≡ true → iv ≡ zeroMaskIv c
+  -- every call that has a key and an IV refuses such a pair with 10, an empty run too, where no row above 10 holds; whatever is lent, and
+  -- whatever the tag
+  pub of-seal : (key iv message : List ℕ) (room : ℕ) → zeroMask c key iv ≡ true → length key ≡ 16 → length iv ≡ 16 → length message ≤ longestMessage
+      → Refuses (seal c key iv message room) 10 room
+  pub of-open : (key sealed : List ℕ) (room : ℕ) → zeroMask c key (ivPart sealed) ≡ true → length key ≡ 16 → notSealed sealed ≡ false
+      → Refuses (openSealed c key sealed room) 10 room
+  pub of-seal-run : (key iv : List ℕ) (first : ℕ) (kind : Kind) (bytes : List ℕ) (room : ℕ) → zeroMask c key iv ≡ true → length key ≡ 16 → length iv ≡ 16
+      → unalignedRun kind bytes ≡ false → first + length (blocksOfRun kind bytes) ≤ limit → Refuses (sealRun c key iv first kind bytes room) 10 room
+  pub of-check-run : (key iv : List ℕ) (first : ℕ) (bytes : List ℕ) → zeroMask c key iv ≡ true → length key ≡ 16 → length iv ≡ 16 → length bytes % 16 ≡ 0
+      → first + length (blocksOf bytes) ≤ limit → checkRun c key iv first bytes ≡ refused 10
+  pub of-close : (key iv : List ℕ) (r : RunRecord) → zeroMask c key iv ≡ true → length key ≡ 16 → length iv ≡ 16 → r .first + r .count ≤ limit → notWhole r ≡ false
+      → close c key iv r ≡ refused 10
+  pub of-test : (key iv : List ℕ) (r : RunRecord) (tag : List ℕ) → zeroMask c key iv ≡ true → length key ≡ 16 → length iv ≡ 16 → length tag ≡ 16
+      → r .first + r .count ≤ limit → notWhole r ≡ false → test c key iv r tag ≡ refused 10
+
+-- some rows without those of number n
+unfoldable pub without : ℕ → List (ℕ × Bool) → List (ℕ × Bool)
+without n [] = []
+without n (row ∷ rows) = cond (eqb n (row .0)) (without n rows) (row ∷ without n rows)
+
+-- For every other pair each call's whole outcome is the one that it had before row 10 was there.
+pub record AsBefore (c : Cipher) : Type 0 where
+  pub of-seal : (key iv message : List ℕ) (room : ℕ) → NonzeroMask c key iv
+      → seal c key iv message room ≡ outcomeBy (decide (without 10 (sealRows c key iv message room)) (sealedRecord c key iv message)) (sealedRecord c key iv message) room
+  pub of-open : (key sealed : List ℕ) (room : ℕ) → NonzeroMask c key (ivPart sealed)
+      → let message = orEmpty (unpadded (plaintextOf c key sealed)) in
+      openSealed c key sealed room ≡ outcomeBy (decide (without 10 (openRows c key sealed room)) message) message room
+  pub of-seal-run : (key iv : List ℕ) (first : ℕ) (kind : Kind) (bytes : List ℕ) (room : ℕ) → NonzeroMask c key iv
+      → let blocks = blocksOfRun kind bytes in
+      sealRun c key iv first kind bytes room
+      ≡ outcomeBy (decide (without 10 (sealRunRows c key iv first kind bytes room)) (runRecord c plaintext key iv first blocks)) ((passFrom c plaintext key iv first blocks) .output) room
+  pub of-check-run : (key iv : List ℕ) (first : ℕ) (bytes : List ℕ) → NonzeroMask c key iv
+      → checkRun c key iv first bytes ≡ decide (without 10 (checkRunRows c key iv first bytes)) (runRecord c ciphertext key iv first (blocksOf bytes))
+  pub of-close : (key iv : List ℕ) (r : RunRecord) → NonzeroMask c key iv → close c key iv r ≡ decide (without 10 (closeRows c key iv r)) (closingTag c key iv r)
+  pub of-test : (key iv : List ℕ) (r : RunRecord) (tag : List ℕ) → NonzeroMask c key iv → test c key iv r tag ≡ decide (without 10 (testRows c key iv r tag)) tt
 
 -- ---- beside demand 2: THE SIGNED JUMP (ticket P1), of the outcome that the call's contract cites
 
@@ -262,6 +317,18 @@ pub record SignedJump (c : Cipher) : Type 0 where
       → JumpsTo ((unbroken c s key iv before) .mask) (negℤ (pos (length before))) (startMask c key iv)
 
 -- ---- beside demand 3
+
+-- what a run gets under a pair that demand 3 leaves out
+unfoldable pub RunRefused : Cipher → Setting → List Segment → Call → Type 0
+RunRefused c s xs (runAt i room) = Refuses (runOutcome (callsOf c) s xs i room) 10 (roomOf (s .work) room)
+RunRefused c s xs (joinPair i j) = Unit {0}
+RunRefused c s xs (joinMany is) = Unit {0}
+
+-- under such a pair every run is refused with 10, and the rack stays empty
+abbrev pub ZeroMaskRack : Cipher → Type 0
+ZeroMaskRack c =
+    (s : Setting) → zeroMask c (s .key) (ivOf (s .work)) ≡ true → WellFormed s → (calls : List Call) → EachCall (callsOf c) s Allowed (start s) calls
+    → EachCall (callsOf c) s (RunRefused c s) (start s) calls × (afterAll (callsOf c) s (start s) calls ≡ start s)
 
 -- a list of calls that is allowed, over some cut, and that leaves a single filled place
 pub record Done (c : Cipher) (key : List ℕ) (work : Work) (r : RunRecord) (bytes : List ℕ) : Type 0 where

@@ -1,4 +1,4 @@
--- Why a list is refused: document 01's table. A row is a number and whether its condition holds; the first row that holds, in the
+-- Why a list is refused: document 01's table, with ticket P3's row 10. A row is a number and whether its condition holds; the first row that holds, in the
 -- table's order, is the answer.
 use mathlib.Core.Path.{_≡_}
 use mathlib.Core.List.{List, [], _∷_, _++_}
@@ -7,7 +7,8 @@ use Prim.Native.Nat.{ℕ, _+_, _*_, _-_, _%_}
 use lib.ListN.{length}
 use lib.IntN.{ℤ, natAbs}
 use lib.Dec.{eqb, ltb}
-use Rattle.mode.specs.Mode.{RunRecord}
+use Rattle.blocks.specs.Bytes.{same}
+use Rattle.mode.specs.Mode.{Cipher, RunRecord, zeroBlock, startMask}
 
 -- a refusal, by document 01's number, or what the call gives
 pub data Answer (A : Type 0) : Type 0 where
@@ -26,7 +27,7 @@ firstRow (row ∷ rows) = cond (row .1) (row .0) (firstRow rows)
 
 -- the numbers in the order in which their rows stand
 abbrev pub tableOrder : List ℕ
-tableOrder = 1 ∷ 2 ∷ 3 ∷ 4 ∷ 8 ∷ 9 ∷ 5 ∷ 6 ∷ 7 ∷ []
+tableOrder = 1 ∷ 2 ∷ 3 ∷ 4 ∷ 8 ∷ 9 ∷ 10 ∷ 5 ∷ 6 ∷ 7 ∷ []
 
 -- whether some rows stand in that order
 unfoldable pub inOrder : List ℕ → List (ℕ × Bool) → Bool
@@ -102,6 +103,10 @@ none (r ∷ rs) = false
 -- 9: a record that does not start at 0 or has no block
 unfoldable pub notWhole : RunRecord → Bool
 notWhole r = not (eqb (r .first) 0) || eqb (r .count) 0
+
+-- 10 (ticket P3): the start mask is still zero after its replacement, so that nothing would be added to the blocks
+unfoldable pub zeroMask : Cipher → List ℕ → List ℕ → Bool
+zeroMask c key iv = same (startMask c key iv) zeroBlock
 
 -- 5: output shorter than the answer
 abbrev pub tooShort : ℕ → ℕ → Bool

@@ -1,0 +1,173 @@
+-- A start mask that is still zero after its replacement (ticket P3): which pairs have one, that every call refuses them, that nothing else
+-- changes, and that nothing comes onto the rack.
+use mathlib.Core.Path.{_≡_, refl, sym, ap, ap₂, subst, _∙_}
+use mathlib.Core.Logic.{_↔_}
+use mathlib.Core.List.{List, [], _∷_}
+use mathlib.Core.Bool.{Bool, true, false, cond}
+use Prim.Native.Nat.{ℕ, zero, suc, _<_}
+use native.Mathlib.Nat.{le-of-eq}
+use lib.ListN.{length}
+use lib.Dec.{leb}
+use Rattle.blocks.specs.Bytes.{xorBytes, Block, same}
+use Rattle.blocks.proofs.XorBytes.{xorBytes-zeros}
+use Rattle.mode.specs.Mode.{Cipher, Lawful, RunRecord, zeroBlock, encrypt, startMask}
+use Rattle.mode.specs.Table.{Answer, decide, anyBeyond, apart, none, zeroMask}
+use Rattle.mode.specs.Calls.{outcomeBy, sealRun, checkRun, joinList, close, test, seal, openRows, openSealed, callsOf}
+use Rattle.mode.specs.Parallel.{ivOf, Setting, WellFormed, Run, Segment, empties, isRecorded, segment, Call, runAt, joinPair, joinMany, AllRecorded, Allowed, mergeBy, recordBy, start, roomOf, runOutcome, answerOf, after, afterAll, EachCall}
+use Rattle.mode.specs.Demands.{Refuses, ciphertextOfSegment, ZeroMask, zeroMaskIv, without, AsBefore, RunRefused, ZeroMaskRack}
+use Rattle.mode.proofs.Rows.{not-too-long}
+use Rattle.mode.proofs.Decisions.{outcome-refuses}
+use Rattle.mode.proofs.Blocks.{aligned}
+use Rattle.mode.proofs.Bytes.{bytes-zeros}
+use Rattle.mode.proofs.Runs.{is16, within}
+use Rattle.mode.proofs.Segments.{not-both}
+use Rattle.mode.proofs.Demand3.{same-true, same-self, start-inv, answerBy, run-is}
+
+-- ---- which pairs
+
+module _ (c : Cipher) (laws : Lawful c) where
+  encrypted-long : (key b : List ℕ) → length key ≡ 16 → length b ≡ 16 → length (encrypt c key b) ≡ 16
+  unfolding encrypt
+  encrypted-long key b hk hb = laws .secondHalf-long key (c .firstHalf key b) hk (laws .firstHalf-long key b hk hb)
+
+  -- step 1's sum under the zero key
+  sum-is : (key iv : List ℕ) → length key ≡ 16 → length iv ≡ 16 → key ≡ zeroBlock → xorBytes (encrypt c key (xorBytes iv key)) key ≡ encrypt c key iv
+  sum-is key iv hk hi z =
+      ap (λ (v : List ℕ). xorBytes (encrypt c key v) key) (ap (xorBytes iv) z ∙ xorBytes-zeros 16 iv hi)
+      ∙ ap (xorBytes (encrypt c key iv)) z
+      ∙ xorBytes-zeros 16 (encrypt c key iv) (encrypted-long key iv hk hi)
+
+  exactly : (key iv : List ℕ) → length key ≡ 16 → length iv ≡ 16 → (zeroMask c key iv ≡ true) ↔ ((key ≡ zeroBlock) × (encrypt c key iv ≡ zeroBlock))
+  unfolding zeroMask startMask
+  exactly key iv hk hi = (λ e. to (same sum zeroBlock) refl e, λ h. from h)
+    where
+      sum : List ℕ
+      sum = xorBytes (encrypt c key (xorBytes iv key)) key
+
+      to : (t : Bool) → same sum zeroBlock ≡ t → same (cond t key sum) zeroBlock ≡ true → (key ≡ zeroBlock) × (encrypt c key iv ≡ zeroBlock)
+      to true s e =
+          let k = same-true key zeroBlock e in
+          (k, sym (sum-is key iv hk hi k) ∙ same-true sum zeroBlock s)
+      to false s e = not-both (sym s ∙ e)
+
+      either : (t : Bool) → key ≡ zeroBlock → sum ≡ zeroBlock → cond t key sum ≡ zeroBlock
+      either true k z = k
+      either false k z = z
+
+      from : (key ≡ zeroBlock) × (encrypt c key iv ≡ zeroBlock) → same (cond (same sum zeroBlock) key sum) zeroBlock ≡ true
+      from h = ap (λ (m : List ℕ). same m zeroBlock) (either (same sum zeroBlock) (h .0) (sum-is key iv hk hi (h .0) ∙ h .1)) ∙ same-self zeroBlock
+
+  zero-block : Block zeroBlock
+  zero-block = record { long = refl; bytes = bytes-zeros 16 }
+
+  -- the cipher run backwards on the zero block, half by half
+  half-back : Block (c .secondHalfBack zeroBlock zeroBlock)
+  half-back =
+      record {
+        long = laws .secondHalfBack-long zeroBlock zeroBlock refl refl;
+        bytes = laws .secondHalfBack-bytes zeroBlock zeroBlock zero-block zero-block;
+      }
+
+  iv-block : Block (zeroMaskIv c)
+  iv-block =
+      let h = c .secondHalfBack zeroBlock zeroBlock in
+      record { long = laws .firstHalfBack-long zeroBlock h refl (half-back .long); bytes = laws .firstHalfBack-bytes zeroBlock h zero-block half-back }
+
+  one-iv : zeroMask c zeroBlock (zeroMaskIv c) ≡ true
+  one-iv = (exactly zeroBlock (zeroMaskIv c) refl (iv-block .long)) .1 (refl, forwards)
+    where
+      forwards : encrypt c zeroBlock (zeroMaskIv c) ≡ zeroBlock
+      forwards =
+          unfold encrypt in
+          (ap (c .secondHalf zeroBlock) (laws .firstHalfBack-undone zeroBlock (c .secondHalfBack zeroBlock zeroBlock) zero-block half-back)
+          ∙ laws .secondHalfBack-undone zeroBlock zeroBlock zero-block zero-block)
+
+  no-other : (iv : List ℕ) → Block iv → zeroMask c zeroBlock iv ≡ true → iv ≡ zeroMaskIv c
+  no-other iv h e =
+      sym (laws .firstHalf-undone zeroBlock iv zero-block h)
+      ∙ ap (c .firstHalfBack zeroBlock)
+      (sym (laws .secondHalf-undone zeroBlock (c .firstHalf zeroBlock iv) zero-block first) ∙ ap (c .secondHalfBack zeroBlock) zeroed)
+    where
+      first : Block (c .firstHalf zeroBlock iv)
+      first = record { long = laws .firstHalf-long zeroBlock iv refl (h .long); bytes = laws .firstHalf-bytes zeroBlock iv zero-block h }
+
+      zeroed : c .secondHalf zeroBlock (c .firstHalf zeroBlock iv) ≡ zeroBlock
+      zeroed = unfold encrypt in ((exactly zeroBlock iv refl (h .long)) .0 e .1)
+
+-- ---- every call refuses them
+
+pub zero-mask : (c : Cipher) → Lawful c → ZeroMask c
+unfolding decide seal openSealed openRows sealRun checkRun close test
+zero-mask c laws =
+    record {
+      exactly = exactly c laws;
+      one-iv = (iv-block c laws, one-iv c laws);
+      no-other = no-other c laws;
+      of-seal = λ key iv message room z hk hi hm. outcome-refuses _ _ room 10 (rw (is16 key hk, is16 iv hi, not-too-long message hm, z));
+      of-open = λ key sealed room z hk hs. outcome-refuses _ _ room 10 (rw (is16 key hk, hs, z));
+      of-seal-run = λ key iv first kind bytes room z hk hi ha hb. outcome-refuses _ _ room 10 (rw (is16 key hk, is16 iv hi, ha, within first _ hb, z));
+      of-check-run = λ key iv first bytes z hk hi ha hb. rw (is16 key hk, is16 iv hi, aligned bytes ha, within first _ hb, z);
+      of-close = λ key iv r z hk hi hb hw. rw (is16 key hk, is16 iv hi, within (r .first) (r .count) hb, hw, z);
+      of-test = λ key iv r tag z hk hi ht hb hw. rw (is16 key hk, is16 iv hi, is16 tag ht, within (r .first) (r .count) hb, hw, z);
+    }
+
+-- ---- every other pair: a row that does not hold may be left out
+
+pub as-before : (c : Cipher) → AsBefore c
+unfolding decide without seal openSealed openRows sealRun checkRun close test
+as-before c =
+    record {
+      of-seal = λ key iv message room nz. rw nz;
+      of-open = λ key sealed room nz. rw nz;
+      of-seal-run = λ key iv first kind bytes room nz. rw nz;
+      of-check-run = λ key iv first bytes nz. rw nz;
+      of-close = λ key iv r nz. rw nz;
+      of-test = λ key iv r tag nz. rw nz;
+    }
+
+-- ---- the rack
+
+pub none-recorded : (rs : List Run) (i : ℕ) → isRecorded (segment (empties rs) i) ≡ false
+unfolding isRecorded empties
+none-recorded [] zero = refl
+none-recorded [] (suc i) = refl
+none-recorded (r ∷ rs) zero = refl
+none-recorded (r ∷ rs) (suc i) = none-recorded rs i
+
+module _ (c : Cipher) (laws : Lawful c) (s : Setting) (z : zeroMask c (s .key) (ivOf (s .work)) ≡ true) (wf : WellFormed s) where
+  empty-at : (i : ℕ) → isRecorded (segment (start s) i) ≡ true → ⊥
+  unfolding start
+  empty-at i e = not-both (sym (none-recorded _ i) ∙ e)
+
+  run-refused : (i room : ℕ) → i < length (start s) → isRecorded (segment (start s) i) ≡ false
+      → Refuses (runOutcome (callsOf c) s (start s) i room) 10 (roomOf (s .work) room)
+  run-refused i room h e =
+      rw (run-is c laws s wf (start s) (start-inv c laws s wf) i room h e)
+      (outcome-refuses (answerBy c laws s wf (start s) (start-inv c laws s wf) i (zeroMask c (s .key) (ivOf (s .work))) enough)
+      (ciphertextOfSegment c s (start s) i) (roomOf (s .work) room) 10 (rw z))
+    where
+      enough : Bool
+      enough = leb (length (ciphertextOfSegment c s (start s) i)) (roomOf (s .work) room)
+
+  step : (call : Call) → Allowed (start s) call → RunRefused c s (start s) call × (after (callsOf c) s (start s) call ≡ start s)
+  unfolding RunRefused Allowed AllRecorded after answerOf
+  step (runAt i room) m =
+      let r = run-refused i room (m .0) (m .1) in
+      (r, ap (λ (a : Answer RunRecord). recordBy a (runOutcome (callsOf c) s (start s) i room) (start s) i) (r .answers) ∙ (unfold recordBy in refl))
+  step (joinPair i j) m = absurd (empty-at i (m .0 .0))
+  step (joinMany []) m = (tt, unfold mergeBy joinList decide anyBeyond apart none in refl)
+  step (joinMany (i ∷ is)) m = absurd (empty-at i (m .0 .0))
+
+  steps : (calls : List Call) → EachCall (callsOf c) s Allowed (start s) calls
+      → EachCall (callsOf c) s (RunRefused c s) (start s) calls × (afterAll (callsOf c) s (start s) calls ≡ start s)
+  unfolding EachCall afterAll
+  steps [] m = (tt, refl)
+  steps (call ∷ calls) m =
+      let one = step call (m .0) in
+      let rest = steps calls (subst (λ (xs : List Segment). EachCall (callsOf c) s Allowed xs calls) (one .1) (m .1)) in (
+        (one .0, subst (λ (xs : List Segment). EachCall (callsOf c) s (RunRefused c s) xs calls) (sym (one .1)) (rest .0)),
+        ap (λ (xs : List Segment). afterAll (callsOf c) s xs calls) (one .1) ∙ rest .1,
+      )
+
+pub zero-mask-rack : (c : Cipher) → Lawful c → ZeroMaskRack c
+zero-mask-rack c laws s z wf calls m = steps c laws s z wf calls m
