@@ -22,17 +22,17 @@ unfolding kindOf laidOutLength unalignedRun unaligned
 run-aligned true bytes e = omega arith
 run-aligned false bytes e = eqb-true (length bytes % 16) 0 (not-false (eqb (length bytes % 16) 0) e)
 
-pub run-fits : (key iv : List ℕ) (first : ℕ) (l : Bool) (bytes : List ℕ) (room : ℕ) → firstRow (sealRunRows key iv first (kindOf l) bytes room) ≡ 0
+pub run-fits : (key iv : List ℕ) (first : ℕ) (l : Bool) (bytes : List ℕ) (room : ℕ) → firstRow (sealRunRows aes key iv first (kindOf l) bytes room) ≡ 0
     → (laidOutLength l (length bytes) ≤ room) × ((laidOutLength l (length bytes) % 16 ≡ 0) × (laidOutLength l (length bytes) / 16 ≤ limit))
 run-fits key iv first l bytes room e =
     let k = count-laidOut l bytes in
     let e₃ = tail-passed 1 _ _ (tail-passed 0 _ _ e) in
     let a = run-aligned l bytes (head-passed 2 _ _ e₃) in
-    let f : 16 * length (blocksOfRun (kindOf l) bytes) ≤ room = ltb-false room (16 * length (blocksOfRun (kindOf l) bytes)) (head-passed 4 _ _ (tail-passed 3 _ _ (tail-passed 2 _ _ e₃))) in
+    let f : 16 * length (blocksOfRun (kindOf l) bytes) ≤ room = ltb-false room (16 * length (blocksOfRun (kindOf l) bytes)) (head-passed 4 _ _ (tail-passed 9 _ _ (tail-passed 3 _ _ (tail-passed 2 _ _ e₃)))) in
     let w : first + length (blocksOfRun (kindOf l) bytes) ≤ limit = run-within key iv _ first _ _ e in
     (omega (arith, f, k, a), (a, omega (arith, w, k)))
 
 pub sealed-fits : (key iv message : List ℕ) (room : ℕ) → firstRow (sealRows aes key iv message room) ≡ 0 → length message / 16 * 16 + 48 ≤ room
 sealed-fits key iv message room e =
-    let f : length (sealedRecord aes key iv message) ≤ room = ltb-false room (length (sealedRecord aes key iv message)) (head-passed 4 _ _ (tail-passed 2 _ _ (tail-passed 1 _ _ (tail-passed 0 _ _ e)))) in
+    let f : length (sealedRecord aes key iv message) ≤ room = ltb-false room (length (sealedRecord aes key iv message)) (head-passed 4 _ _ (tail-passed 9 _ _ (tail-passed 2 _ _ (tail-passed 1 _ _ (tail-passed 0 _ _ e))))) in
     omega (arith, f, sealed-length aes aes-lawful key (key-16 key _ e) iv (iv-16 key iv _ e) message)

@@ -158,7 +158,7 @@ pub lengths-passed : (key sealed : List ℕ) (room : ℕ) → firstRow (openFirs
 lengths-passed key sealed room e =
     let e₃ = tail-passed 0 _ _ e in
     let l = sealed-lengths sealed (head-passed 2 _ _ e₃) in
-    let f : length (cipherPart sealed) ≤ room = ltb-false room (length (cipherPart sealed)) (head-passed 4 _ _ (tail-passed 2 _ _ e₃)) in
+    let f : length (cipherPart sealed) ≤ room = ltb-false room (length (cipherPart sealed)) (head-passed 4 _ _ (tail-passed 9 _ _ (tail-passed 2 _ _ e₃))) in
     (key-16 key _ e, (record { least = l .0; aligned = l .2 }, omega (arith, f, cipher-length sealed (l .0))))
 
 pub tag-block : (sealed : List ℕ) → 48 ≤ length sealed → take 16 (drop (length sealed - 16) sealed) ≡ tagPart sealed

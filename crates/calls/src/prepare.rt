@@ -36,5 +36,6 @@ pub fn zero_mask(key: &[u8], iv: &[u8]) -> bool
         return false;
     }
     let p = prepare(key, iv);
-    blocks::block::equal(p.start, [0u8; 16])
+    let start = p.start;
+    blocks::block::equal(start, [0u8; 16])
 }

@@ -25,6 +25,18 @@ use Rattle.mode.proofs.Demand3.{same-true, same-self, start-inv, answer
 
 -- ---- which pairs
 
+-- a key that is not zero has no such IV
+pub key-not-zero : (c : Cipher) (key iv : List ℕ) → same key zeroBlock ≡ false → zeroMask c key iv ≡ false
+unfolding zeroMask startMask
+key-not-zero c key iv h = by (same sum zeroBlock) refl
+  where
+    sum : List ℕ
+    sum = xorBytes (encrypt c key (xorBytes iv key)) key
+
+    by : (t : Bool) → same sum zeroBlock ≡ t → same (cond t key sum) zeroBlock ≡ false
+    by true e = h
+    by false e = e
+
 module _ (c : Cipher) (laws : Lawful c) where
   encrypted-long : (key b : List ℕ) → length key ≡ 16 → length b ≡ 16 → length (encrypt c key b) ≡ 16
   unfolding encrypt

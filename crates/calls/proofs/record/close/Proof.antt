@@ -18,7 +18,7 @@ unfolding closeOf
 returns c =
     let a = c .before .before .before .before .args in
     let x = c .before .close-refusal in
-    refused-tag _ (x .result) (refuses (closeRows (a .key .now) (a .iv .now) (a .run)) (closingTag aes (a .key .now) (a .iv .now) (a .run)) (x .result) (x .ensures) (c .if1 .taken))
+    refused-tag _ (x .result) (refuses (closeRows aes (a .key .now) (a .iv .now) (a .run)) (closingTag aes (a .key .now) (a .iv .now) (a .run)) (x .result) (x .ensures) (c .if1 .taken))
 
 closing-tag-requires : tie.Need-closing-tag-requires
 closing-tag-requires c κs =
@@ -33,7 +33,7 @@ returns-2 c =
     let x = c .before .before .close-refusal in
     ap (λ (t : List ℕ). record { refusal = 0; tag = t }) (c .closing-tag .ensures)
     ∙ given-tag _ (closingTag aes (a .key .now) (a .iv .now) (a .run))
-    (gives (closeRows (a .key .now) (a .iv .now) (a .run)) (closingTag aes (a .key .now) (a .iv .now) (a .run)) (x .result) tt (x .ensures) (c .before .if1 .left))
+    (gives (closeRows aes (a .key .now) (a .iv .now) (a .run)) (closingTag aes (a .key .now) (a .iv .now) (a .run)) (x .result) tt (x .ensures) (c .before .if1 .left))
 
 pub close-spec : {M : Type 1} → statement M
 close-spec = tie.close (tie.spec close-refusal-requires returns closing-tag-requires returns-2)

@@ -27,7 +27,7 @@ returns c =
     let a = c .before .before .before .before .before .before .args in
     let x = c .before .before .check-run-refusal in
     c .refused .ensures
-    ∙ refused-record _ (x .result) (refuses (checkRunRows (a .key .now) (a .iv .now) (a .first) (a .bytes .now)) (runRecord aes ciphertext (a .key .now) (a .iv .now) (a .first) (blocksOf (a .bytes .now))) (x .result) (x .ensures) (c .before .if1 .taken))
+    ∙ refused-record _ (x .result) (refuses (checkRunRows aes (a .key .now) (a .iv .now) (a .first) (a .bytes .now)) (runRecord aes ciphertext (a .key .now) (a .iv .now) (a .first) (blocksOf (a .bytes .now))) (x .result) (x .ensures) (c .before .if1 .taken))
 
 check-run-record-requires : tie.Need-check-run-record-requires
 check-run-record-requires c κs =
@@ -42,7 +42,7 @@ returns-2 c =
     let a = c .before .before .before .before .before .before .args in
     let x = c .before .before .check-run-refusal in
     ap (λ (r : RunRecord). record { refusal = 0; run = r }) (c .check-run-record .ensures)
-    ∙ given-record _ _ (gives (checkRunRows (a .key .now) (a .iv .now) (a .first) (a .bytes .now)) (runRecord aes ciphertext (a .key .now) (a .iv .now) (a .first) (blocksOf (a .bytes .now))) (x .result) tt (x .ensures) (c .before .if1 .left))
+    ∙ given-record _ _ (gives (checkRunRows aes (a .key .now) (a .iv .now) (a .first) (a .bytes .now)) (runRecord aes ciphertext (a .key .now) (a .iv .now) (a .first) (blocksOf (a .bytes .now))) (x .result) tt (x .ensures) (c .before .if1 .left))
 
 pub check-run-spec : {M : Type 1} → statement M
 check-run-spec =

@@ -44,27 +44,40 @@ returns-4 c =
     let n : limit < a .first + length (blocksOfRun (kindOf (a .last)) (a .bytes .now)) = rw k (omega arith) in
     sym (row-passes 1 _ _ (is16 (a .key .now) (c .before .before .before .before .if1 .left)) ∙ row-passes 2 _ _ (is16 (a .iv .now) (c .before .before .before .if2 .left)) ∙ row-passes 3 _ _ (aligned-run (a .last) (a .bytes .now) (ap (λ (m : ℕ). m % 16) (sym e) ∙ c .before .if3 .left)) ∙ row-holds 4 _ _ (is-beyond (a .first) _ n))
 
+zero-mask-requires : tie.Need-zero-mask-requires
+zero-mask-requires c κs = search needs
+
 returns-5 : tie.Need-returns-5
 returns-5 c =
-    let a = c .before .before .before .before .before .before .before .before .before .args in
-    let l = c .before .before .before .laid-out-length in
+    let a = c .before .before .before .before .before .before .before .before .before .before .args in
+    let l = c .before .before .before .before .laid-out-length in
     let e : l .result ≡ laidOutLength (a .last) (length (a .bytes .now)) = l .ensures in
     let k : length (blocksOfRun (kindOf (a .last)) (a .bytes .now)) ≡ l .result / 16 = count-laidOut (a .last) (a .bytes .now) ∙ ap (λ (m : ℕ). m / 16) (sym e) in
     let n : a .first + length (blocksOfRun (kindOf (a .last)) (a .bytes .now)) ≤ limit = rw k (omega arith) in
-    let m : a .room < 16 * length (blocksOfRun (kindOf (a .last)) (a .bytes .now)) = rw k (omega (arith, c .before .before .if3 .left)) in
-    sym (row-passes 1 _ _ (is16 (a .key .now) (c .before .before .before .before .before .if1 .left)) ∙ row-passes 2 _ _ (is16 (a .iv .now) (c .before .before .before .before .if2 .left)) ∙ row-passes 3 _ _ (aligned-run (a .last) (a .bytes .now) (ap (λ (m : ℕ). m % 16) (sym e) ∙ c .before .before .if3 .left)) ∙ row-passes 4 _ _ (within (a .first) _ n)
-    ∙ row-holds 5 _ _ (lt-ltb (a .room) _ m))
+    sym (row-passes 1 _ _ (is16 (a .key .now) (c .before .before .before .before .before .before .if1 .left)) ∙ row-passes 2 _ _ (is16 (a .iv .now) (c .before .before .before .before .before .if2 .left)) ∙ row-passes 3 _ _ (aligned-run (a .last) (a .bytes .now) (ap (λ (m : ℕ). m % 16) (sym e) ∙ c .before .before .before .if3 .left)) ∙ row-passes 4 _ _ (within (a .first) _ n)
+    ∙ row-holds 10 _ _ (sym (c .before .zero-mask .ensures) ∙ c .if5 .taken))
 
 returns-6 : tie.Need-returns-6
 returns-6 c =
-    let a = c .before .before .before .before .before .before .before .before .before .args in
-    let l = c .before .before .before .laid-out-length in
+    let a = c .before .before .before .before .before .before .before .before .before .before .before .args in
+    let l = c .before .before .before .before .before .laid-out-length in
     let e : l .result ≡ laidOutLength (a .last) (length (a .bytes .now)) = l .ensures in
     let k : length (blocksOfRun (kindOf (a .last)) (a .bytes .now)) ≡ l .result / 16 = count-laidOut (a .last) (a .bytes .now) ∙ ap (λ (m : ℕ). m / 16) (sym e) in
     let n : a .first + length (blocksOfRun (kindOf (a .last)) (a .bytes .now)) ≤ limit = rw k (omega arith) in
-    let m : 16 * length (blocksOfRun (kindOf (a .last)) (a .bytes .now)) ≤ a .room = rw k (omega (arith, c .before .before .if3 .left)) in
-    sym (row-passes 1 _ _ (is16 (a .key .now) (c .before .before .before .before .before .if1 .left)) ∙ row-passes 2 _ _ (is16 (a .iv .now) (c .before .before .before .before .if2 .left)) ∙ row-passes 3 _ _ (aligned-run (a .last) (a .bytes .now) (ap (λ (m : ℕ). m % 16) (sym e) ∙ c .before .before .if3 .left)) ∙ row-passes 4 _ _ (within (a .first) _ n)
-    ∙ row-passes 5 _ _ (le-ltb (a .room) _ m) ∙ no-row)
+    let m : a .room < 16 * length (blocksOfRun (kindOf (a .last)) (a .bytes .now)) = rw k (omega (arith, c .before .before .before .before .if3 .left)) in
+    sym (row-passes 1 _ _ (is16 (a .key .now) (c .before .before .before .before .before .before .before .if1 .left)) ∙ row-passes 2 _ _ (is16 (a .iv .now) (c .before .before .before .before .before .before .if2 .left)) ∙ row-passes 3 _ _ (aligned-run (a .last) (a .bytes .now) (ap (λ (m : ℕ). m % 16) (sym e) ∙ c .before .before .before .before .if3 .left)) ∙ row-passes 4 _ _ (within (a .first) _ n)
+    ∙ row-passes 10 _ _ (sym (c .before .before .zero-mask .ensures) ∙ c .before .if5 .left) ∙ row-holds 5 _ _ (lt-ltb (a .room) _ m))
+
+returns-7 : tie.Need-returns-7
+returns-7 c =
+    let a = c .before .before .before .before .before .before .before .before .before .before .before .args in
+    let l = c .before .before .before .before .before .laid-out-length in
+    let e : l .result ≡ laidOutLength (a .last) (length (a .bytes .now)) = l .ensures in
+    let k : length (blocksOfRun (kindOf (a .last)) (a .bytes .now)) ≡ l .result / 16 = count-laidOut (a .last) (a .bytes .now) ∙ ap (λ (m : ℕ). m / 16) (sym e) in
+    let n : a .first + length (blocksOfRun (kindOf (a .last)) (a .bytes .now)) ≤ limit = rw k (omega arith) in
+    let m : 16 * length (blocksOfRun (kindOf (a .last)) (a .bytes .now)) ≤ a .room = rw k (omega (arith, c .before .before .before .before .if3 .left)) in
+    sym (row-passes 1 _ _ (is16 (a .key .now) (c .before .before .before .before .before .before .before .if1 .left)) ∙ row-passes 2 _ _ (is16 (a .iv .now) (c .before .before .before .before .before .before .if2 .left)) ∙ row-passes 3 _ _ (aligned-run (a .last) (a .bytes .now) (ap (λ (m : ℕ). m % 16) (sym e) ∙ c .before .before .before .before .if3 .left)) ∙ row-passes 4 _ _ (within (a .first) _ n)
+    ∙ row-passes 10 _ _ (sym (c .before .before .zero-mask .ensures) ∙ c .before .if5 .left) ∙ row-passes 5 _ _ (le-ltb (a .room) _ m) ∙ no-row)
 
 pub seal-run-refusal-spec : {M : Type 1} → statement M
 seal-run-refusal-spec =
@@ -76,5 +89,7 @@ seal-run-refusal-spec =
     returns-3
     add-if4
     returns-4
+    zero-mask-requires
     returns-5
-    returns-6)
+    returns-6
+    returns-7)

@@ -1,0 +1,44 @@
+-- Under a key that is not zero neither the start mask nor its replacement is; under a zero key the mask is looked at.
+use borrow.Author.Needs.{needs}
+use borrow.Author.Tests.{not-true}
+use mathlib.Core.Path.{_≡_, sym, ap, _∙_}
+use mathlib.Core.Bool.{Bool, true, false}
+use mathlib.Core.List.{List}
+use Prim.Native.Nat.{ℕ, _+_}
+use native.Mathlib.Omega.{arith}
+use lib.Seq.{take-all}
+use Rattle.blocks.specs.Bytes.{same}
+use Rattle.mode.specs.Mode.{zeroBlock}
+use Rattle.mode.specs.Aes.{aes}
+use Rattle.mode.specs.Table.{zeroMask}
+use Rattle.mode.proofs.ZeroMask.{key-not-zero}
+use Rattle.calls.proofs.prepare.zero_mask.Statement.{statement}
+use Rattle.calls.proofs.prepare.zero_mask.Tie as tie
+
+load-requires : tie.Need-load-requires
+load-requires c κs = search needs
+
+equal-requires : tie.Need-equal-requires
+equal-requires c κs = search needs
+
+returns : tie.Need-returns
+returns c =
+    let s = c .before .before .before .before .before in
+    let k : c .before .before .load .result ≡ s .args .key .now = c .before .before .load .ensures ∙ take-all 16 (s .args .key .now) (omega (arith, s .pre .0)) in
+    let e : c .before .equal .result ≡ same (s .args .key .now) zeroBlock = c .before .equal .ensures ∙ ap (λ (x : List ℕ). same x zeroBlock) k in
+    sym (key-not-zero aes (s .args .key .now) (s .args .iv .now) (sym e ∙ not-true (c .before .equal .result) (c .if1 .taken)))
+
+prepare-requires : tie.Need-prepare-requires
+prepare-requires c κs = search needs
+
+equal-requires-2 : tie.Need-equal-requires-2
+equal-requires-2 c κs = search needs
+
+returns-2 : tie.Need-returns-2
+unfolding zeroMask
+returns-2 c = c .equal2 .ensures ∙ ap (λ (x : List ℕ). same x zeroBlock) (c .before .before .prepare .ensures .started)
+
+pub zero-mask-spec : {M : Type 1} → statement M
+zero-mask-spec =
+    tie.close
+    (tie.spec load-requires equal-requires returns prepare-requires equal-requires-2 returns-2)
