@@ -100,7 +100,7 @@ lent-promised ks f n bytes room h five none = promised ks (decide (lentRows f ro
 
 -- of a run: the ciphertext, its length and the record
 run-promised : (key iv : List ℕ) (first last : ℕ) (bytes : List ℕ) (size room : ℕ)
-    → PromisedRun (0 ∷ 1 ∷ 2 ∷ 3 ∷ 4 ∷ 5 ∷ []) (sealRunBytes key iv first last bytes size room) size room
+    → PromisedRun (0 ∷ 1 ∷ 2 ∷ 3 ∷ 4 ∷ 10 ∷ 5 ∷ []) (sealRunBytes key iv first last bytes size room) size room
 unfolding sealRunBytes sealRun runAnswerOf
 run-promised key iv first last bytes size room =
     record { numbered = lentRun .numbered; zero = λ h. let x = by (ltb room 24) refl h in (x .0, (x .1, lentRun .zero h .0)) }
@@ -112,16 +112,16 @@ run-promised key iv first last bytes size room =
     blocks = blocksOfRun kind bytes
 
     d : Answer RunRecord
-    d = decide (sealRunRows key iv first kind bytes size) (runRecord aes plaintext key iv first blocks)
+    d = decide (sealRunRows aes key iv first kind bytes size) (runRecord aes plaintext key iv first blocks)
 
     text : List ℕ
     text = (passFrom aes plaintext key iv first blocks) .output
 
     numbers : List ℕ
-    numbers = 0 ∷ 1 ∷ 2 ∷ 3 ∷ 4 ∷ 5 ∷ []
+    numbers = 0 ∷ 1 ∷ 2 ∷ 3 ∷ 4 ∷ 10 ∷ 5 ∷ []
 
     refusal : OneOf numbers (number ((outcomeBy d text size) .answer))
-    refusal = promised numbers d text size (by-rows numbers (sealRunRows key iv first kind bytes size) _ tt) .numbered
+    refusal = promised numbers d text size (by-rows numbers (sealRunRows aes key iv first kind bytes size) _ tt) .numbered
 
     lentRun : Promised numbers (lentRecord (recordPart (runAnswerOf (outcomeBy d text size))) room) room
     lentRun = lent-promised numbers _ 24 _ room refusal tt tt
@@ -146,13 +146,13 @@ promises =
       of-seal = λ key iv message room. promised _ _ _ room (by-rows _ (sealRows aes key iv message room) _ tt);
       of-open = λ key sealed room. promised _ _ _ room (by-rows _ (openRows aes key sealed room) _ tt);
       of-seal-run = run-promised;
-      of-check-run = λ key iv first bytes room. lent-promised _ _ 24 _ room (by-rows _ (checkRunRows key iv first bytes) _ tt) tt tt;
+      of-check-run = λ key iv first bytes room. lent-promised _ _ 24 _ room (by-rows _ (checkRunRows aes key iv first bytes) _ tt) tt tt;
       of-join =
           λ l r room. lent-promised _ _ 24 _ room (by-cases _ refusalOf (notRecord l || notRecord r) _ _ (tested _ 24 tt) (by-rows _ (joinTwoRows (decoded l) (decoded r)) _ tt)) tt tt;
       of-join-list =
           λ b room. lent-promised _ _ 24 _ room (by-cases _ refusalOf (notRecords b) _ _ (tested _ 24 tt) (by-rows _ (joinListRows (recordsOf b)) _ tt)) tt tt;
       of-close =
-          λ key iv r room. lent-promised _ _ 16 _ room (by-cases _ refusalOfTag (notRecord r) _ _ (tested _ 24 tt) (by-rows _ (closeRows key iv (decoded r)) _ tt)) tt tt;
+          λ key iv r room. lent-promised _ _ 16 _ room (by-cases _ refusalOfTag (notRecord r) _ _ (tested _ 24 tt) (by-rows _ (closeRows aes key iv (decoded r)) _ tt)) tt tt;
       of-test =
           λ key iv r tag. by-cases _ (λ (n : ℕ). n) (notRecord r) _ _ (tested _ 24 tt) (by-rows _ (testRows aes key iv (decoded r) tag) _ tt);
       of-jump = λ mask distance room. promised _ _ _ room (by-rows _ (jumpRows mask distance room) _ tt);
