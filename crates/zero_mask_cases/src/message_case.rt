@@ -1,0 +1,71 @@
+// One case of sealing or opening under the pair: lengths, and what it gets.
+ghost use Prim.Native.Nat.{_≤_};
+use crate::pair;
+use case_tools::bytes::flip;
+use case_tools::bytes::one_if;
+use case_tools::bytes::written;
+use case_tools::hex::bytes_at;
+use case_tools::open::answers;
+use case_tools::random::noise;
+
+// In an output that held noise.
+fn seal_answers(key: &[u8], iv: &[u8], message: &[u8], out: &mut [u8], refusal: u8) -> usize
+    ensures { λ r. ⌜ r ≤ 1 ⌝ }
+{
+    noise(out);
+    let w = calls::seal::seal(key, iv, message, out);
+    one_if(written(w, refusal, 0, out))
+}
+
+pub fn seal_refused(key: usize, iv: usize, message: usize, room: usize, refusal: u8) -> usize
+    requires { ⌜ key ≤ 32 ⌝ }
+    requires { ⌜ iv ≤ 32 ⌝ }
+    requires { ⌜ message ≤ 64000 ⌝ }
+    requires { ⌜ room ≤ 65536 ⌝ }
+    ensures { λ r. ⌜ r ≤ 1 ⌝ }
+{
+    let keys = [0u8; 32];
+    let ivs = pair::ivs();
+    let text = [9u8; 64000];
+    let mut out = [0u8; 65536];
+    seal_answers(
+        &keys[0..key],
+        &ivs[0..iv],
+        &text[0..message],
+        &mut out[0..room],
+        refusal,
+    )
+}
+
+// The record that steps 1 to 3 give of a message of 20 bytes under the pair, as vectors/make-mode-vectors prints it: its tag is right, and its
+// last block is padded.
+fn sealed_anyway() -> [u8; 64] {
+    let mut r = [0u8; 64];
+    bytes_at(
+        b"140F0F1011B5223D79587717FFD9EC3AC0D23FF2B083E61A7A7E42072F7D24EC398B3C3BF7647B8DC5662255D485426A965DDF2FC5354DDE2F69EEE970137A79",
+        0,
+        64,
+        &mut r,
+    );
+    r
+}
+
+// The first `size` bytes of that record, with its last byte as it is or changed.
+pub fn open_refused(key: usize, size: usize, changed: u8, room: usize, refusal: u8) -> usize
+    requires { ⌜ key ≤ 32 ⌝ }
+    requires { ⌜ size ≤ 64 ⌝ }
+    requires { ⌜ room ≤ 64 ⌝ }
+    ensures { λ r. ⌜ r ≤ 1 ⌝ }
+{
+    let keys = [0u8; 32];
+    let mut sealed = sealed_anyway();
+    flip(&mut sealed, 63, changed);
+    let mut out = [0u8; 64];
+    answers(
+        &keys[0..key],
+        &sealed[0..size],
+        &mut out[0..room],
+        refusal,
+        b"",
+    )
+}

@@ -1,0 +1,57 @@
+// One case of closing or testing a record made by hand under the pair, and what it gets.
+ghost use Prim.Native.Nat.{_≤_};
+use crate::pair;
+use case_tools::bytes::flip;
+use case_tools::bytes::one_if;
+use case_tools::hex::block;
+use mode::RunRecord;
+
+fn made(first: u32, count: u32) -> RunRecord {
+    RunRecord {
+        first,
+        count,
+        preauthenticator: block(b"5BD1E995C6EF3720A54FF53A1F83D9AB"),
+    }
+}
+
+pub fn close_refused(key: usize, iv: usize, first: u32, count: u32, refusal: u8) -> usize
+    requires { ⌜ key ≤ 32 ⌝ }
+    requires { ⌜ iv ≤ 32 ⌝ }
+    ensures { λ r. ⌜ r ≤ 1 ⌝ }
+{
+    let keys = [0u8; 32];
+    let ivs = pair::ivs();
+    let a = calls::record::close(&keys[0..key], &ivs[0..iv], made(first, count));
+    let tag = a.tag;
+    one_if((a.refusal == refusal) & blocks::block::equal(tag, [0u8; 16]))
+}
+
+// The tag that step 3 gives of such a record under the pair, whatever its count, as vectors/make-mode-vectors prints it, in front of zeros.
+fn tags() -> [u8; 32] {
+    let mut r = [0u8; 32];
+    blocks::block::store(&mut r, 0, block(b"3CF74E683DD8E669829B288C0AD49E86"));
+    r
+}
+
+// That tag, cut to a length, with its last byte as it is or changed.
+pub fn test_refused(
+    key: usize,
+    iv: usize,
+    first: u32,
+    count: u32,
+    tag: usize,
+    changed: u8,
+    refusal: u8,
+) -> usize
+    requires { ⌜ key ≤ 32 ⌝ }
+    requires { ⌜ iv ≤ 32 ⌝ }
+    requires { ⌜ tag ≤ 32 ⌝ }
+    ensures { λ r. ⌜ r ≤ 1 ⌝ }
+{
+    let keys = [0u8; 32];
+    let ivs = pair::ivs();
+    let mut all = tags();
+    flip(&mut all, 15, changed);
+    let answer = calls::record::test(&keys[0..key], &ivs[0..iv], made(first, count), &all[0..tag]);
+    one_if(answer == refusal)
+}
