@@ -1,21 +1,21 @@
 -- What the demands may not lose: whatever sealing and opening take may be cut, at every block; every call that document 01 allows is allowed, at
--- every place; jumps go both ways up to the limit; the table's order is document 01's, and no other order passes for it.
+-- every place; no pair but one is left out, and its row is all that is new; jumps go both ways up to the limit; the table's order is document 01's, and no other order passes for it.
 use mathlib.Core.Path.{_≡_, refl, sym, subst, _∙_}
-use mathlib.Core.Logic.{inl, inr}
+use mathlib.Core.Logic.{_⊎_, inl, inr}
 use mathlib.Core.List.{List, [], _∷_}
-use mathlib.Core.Bool.{Bool, true, false, cond}
-use Prim.Native.Nat.{ℕ, suc, _+_, _%_, _≤_, _<_}
+use mathlib.Core.Bool.{Bool, true, false, cond, not}
+use Prim.Native.Nat.{ℕ, suc, _+_, _*_, _%_, _≤_, _<_}
 use lib.IntN.{ℤ, pos, negsuc, negℤ, negℤ-negℤ}
 use lib.ListN.{length}
 use native.Mathlib.Omega.{arith}
 use borrow.Author.Tests.{ltb-false}
-use Rattle.blocks.specs.Bytes.{Block, concat}
+use Rattle.blocks.specs.Bytes.{Block, same, concat}
 use Rattle.blocks.proofs.Sign.{abs-neg}
-use Rattle.mode.specs.Mode.{Cipher, cipherPart, sealedRecord}
-use Rattle.mode.specs.Table.{given, decide, tableOrder, inOrder, tooLong, notSealed, tooFar, apart, limit, longestMessage}
-use Rattle.mode.specs.Calls.{Kind, middle, last, seal, sealRows}
-use Rattle.mode.specs.Parallel.{sealing, checking, lastKind, textOf, Fits, Cut, WellFormed, Segment, isRecorded, segment, runAt, joinPair, joinMany, consecutive, AllRecorded, recordsAt, Allowed}
-use Rattle.mode.specs.Demands.{InTable, JumpsTo, SignedJump}
+use Rattle.mode.specs.Mode.{Cipher, ciphertext, RunRecord, zeroBlock, encrypt, blocksOf, ivPart, cipherPart, tagPart, sealedRecord, unbrokenTag, UnbrokenCheck}
+use Rattle.mode.specs.Table.{Answer, refused, given, tableOrder, inOrder, not16, unaligned, tooLong, notSealed, beyond, tooFar, apart, notWhole, zeroMask, tooShort, limit, longestMessage}
+use Rattle.mode.specs.Calls.{Kind, middle, last, blocksOfRun, unalignedRun, seal, sealRows, openSealed, openRows, unpadded, notPadded, plaintextOf, sealRunRows, checkRunRows, closingTag, closeRows, testRows, Calls}
+use Rattle.mode.specs.Parallel.{sealing, checking, ivOf, lastKind, textOf, Fits, Cut, Setting, WellFormed, Segment, isRecorded, segment, Call, runAt, joinPair, joinMany, consecutive, AllRecorded, recordsAt, Allowed, start, afterAll, EachCall}
+use Rattle.mode.specs.Demands.{Gives, InTable, NonzeroMask, Demand2a, Demand2d, Agrees, Demand3, ZeroMask, without, JumpsTo, SignedJump}
 use Rattle.mode.proofs.Passed.{has-16}
 use Rattle.mode.proofs.Decisions.{given-rows, outcome-answer}
 use Rattle.mode.proofs.Demand2.{sealing-given, message-fits, sealed-lengths}
@@ -76,6 +76,91 @@ module _ (xs : List Segment) where
   pub list-apart-allowed : (is : List ℕ) → AllRecorded xs is → apart (recordsAt xs is) ≡ true → Allowed xs (joinMany is)
   unfolding Allowed
   list-apart-allowed is h e = (h, inr (inr e))
+
+-- ---- the pair that demands 2 and 3 leave out
+
+-- it is a zero key, and an IV that it encrypts to zero: no other
+pub every-other-pair : (c : Cipher) → ZeroMask c → (key iv : List ℕ) → length key ≡ 16 → length iv ≡ 16
+    → ((key ≡ zeroBlock) × (encrypt c key iv ≡ zeroBlock) → ⊥) → NonzeroMask c key iv
+every-other-pair c z key iv hk hi h = by (zeroMask c key iv) refl
+  where
+    by : (t : Bool) → zeroMask c key iv ≡ t → zeroMask c key iv ≡ false
+    by true e = absurd (h ((z .exactly key iv hk hi) .0 e))
+    by false e = e
+
+-- the three that leave it out ask no more of a pair
+pub sealed-else : (c : Cipher) → Demand2a c → (key iv message : List ℕ) (room : ℕ) → zeroMask c key iv ≡ false → length key ≡ 16 → length iv ≡ 16
+    → length message ≤ longestMessage → length (sealedRecord c key iv message) ≤ room
+    → Gives (seal c key iv message room) (sealedRecord c key iv message) (sealedRecord c key iv message) room
+sealed-else c d = d .seals
+
+pub checked-else : (c : Cipher) → Demand2d c → (key sealed : List ℕ) → zeroMask c key (ivPart sealed) ≡ false → length key ≡ 16 → notSealed sealed ≡ false
+    → UnbrokenCheck c key sealed → (openSealed c key sealed (length (cipherPart sealed))) .answer ≡ refused 6 → ⊥
+checked-else c d key sealed z hk hs u six = by ((d key sealed z hk hs) .0 u)
+  where
+    answer : Answer (List ℕ)
+    answer = (openSealed c key sealed (length (cipherPart sealed))) .answer
+
+    by : ((m : List ℕ) × (answer ≡ given m)) ⊎ (answer ≡ refused 7) → ⊥
+    by (inl g) = let e : refused 6 ≡ given (g .0) = sym six ∙ g .1 in let z : _≡_ {A = ℕ} 0 1 = cc in omega arith
+    by (inr s) = let e : _≡_ {A = Answer (List ℕ)} (refused 6) (refused 7) = sym six ∙ s in let z : _≡_ {A = ℕ} 6 7 = cc in omega arith
+
+pub cut-else : (c : Cipher) (m : Calls) → Demand3 c m → (s : Setting) → zeroMask c (s .key) (ivOf (s .work)) ≡ false → WellFormed s
+    → (calls : List Call) → EachCall m s Allowed (start s) calls → Agrees c m s calls (afterAll m s (start s) calls)
+cut-else c m d = d
+
+-- what the calls were compared with: their rows as they stood before, word for word
+module _ (c : Cipher) (key iv : List ℕ) where
+  pub seal-before : (message : List ℕ) (room : ℕ)
+      → without 10 (sealRows c key iv message room)
+      ≡ (1, not16 key) ∷ (2, not16 iv) ∷ (3, tooLong message) ∷ (5, tooShort room (length (sealedRecord c key iv message))) ∷ []
+  unfolding without
+  seal-before message room = refl
+
+  pub open-before : (sealed : List ℕ) (room : ℕ)
+      → without 10 (openRows c key sealed room)
+      ≡ (1, not16 key)
+      ∷ (3, notSealed sealed)
+      ∷ (5, tooShort room (length (cipherPart sealed)))
+      ∷ (6, not (same (unbrokenTag c ciphertext key (ivPart sealed) (blocksOf (cipherPart sealed))) (tagPart sealed)))
+      ∷ (7, notPadded (unpadded (plaintextOf c key sealed)))
+      ∷ []
+  unfolding without openRows
+  open-before sealed room = refl
+
+  pub seal-run-before : (first : ℕ) (kind : Kind) (bytes : List ℕ) (room : ℕ)
+      → without 10 (sealRunRows c key iv first kind bytes room)
+      ≡ (1, not16 key)
+      ∷ (2, not16 iv)
+      ∷ (3, unalignedRun kind bytes)
+      ∷ (4, beyond first (length (blocksOfRun kind bytes)))
+      ∷ (5, tooShort room (16 * length (blocksOfRun kind bytes)))
+      ∷ []
+  unfolding without
+  seal-run-before first kind bytes room = refl
+
+  pub check-run-before : (first : ℕ) (bytes : List ℕ)
+      → without 10 (checkRunRows c key iv first bytes)
+      ≡ (1, not16 key) ∷ (2, not16 iv) ∷ (3, unaligned bytes) ∷ (4, beyond first (length (blocksOf bytes))) ∷ []
+  unfolding without
+  check-run-before first bytes = refl
+
+  pub close-before : (r : RunRecord)
+      → without 10 (closeRows c key iv r) ≡ (1, not16 key) ∷ (2, not16 iv) ∷ (4, beyond (r .first) (r .count)) ∷ (9, notWhole r) ∷ []
+  unfolding without
+  close-before r = refl
+
+  pub test-before : (r : RunRecord) (tag : List ℕ)
+      → without 10 (testRows c key iv r tag)
+      ≡ (1, not16 key)
+      ∷ (2, not16 iv)
+      ∷ (3, not16 tag)
+      ∷ (4, beyond (r .first) (r .count))
+      ∷ (9, notWhole r)
+      ∷ (6, not (same (closingTag c key iv r) tag))
+      ∷ []
+  unfolding without
+  test-before r tag = refl
 
 -- ---- the signed jump
 

@@ -1,5 +1,6 @@
 -- The statements of the demands are not empty: a list of calls over a message that is allowed, with four refused calls, an empty run and a
--- join of a list; one over a ciphertext; and records that are opened, refused with 6 and refused with 7.
+-- join of a list; one over a ciphertext; a pair that is left out, and its neighbours, which are not; and records that are opened, refused
+-- with 6 and refused with 7.
 use mathlib.Core.Path.{_≡_, refl}
 use mathlib.Core.Logic.{inl, inr}
 use mathlib.Core.List.{List, [], _∷_, _++_}
@@ -9,7 +10,7 @@ use lib.Dec.{lit<, lit≤}
 use lib.Bits.{bitXor}
 use Rattle.mode.specs.Mode.{plaintext, RunRecord, sealedRecord, unbroken, unbrokenTag}
 use Rattle.mode.specs.Table.{refused, given}
-use Rattle.mode.specs.Calls.{number, callsOf, openSealed}
+use Rattle.mode.specs.Calls.{middle, last, number, sealRun, callsOf, openSealed}
 use Rattle.mode.specs.Parallel.{sealing, Setting, WellFormed, Run, Segment, recorded, blocksIn, Call, runAt, joinPair, joinMany, Allowed, start, answerOf, after, afterAll, EachCall}
 use Rattle.mode.specs.Demands.{Agrees}
 use Rattle.mode.proofs.Demand3.{demand3}
@@ -90,6 +91,37 @@ checks = runAt 1 0 ∷ runAt 0 0 ∷ joinPair 1 0 ∷ joinPair 0 1 ∷ []
 checks-allowed : EachCall (callsOf toy) twoChecked Allowed (start twoChecked) checks
 unfolding computed
 checks-allowed = ((lit< tt, refl), ((lit< tt, refl), (((refl, (refl, tt)), inr refl), (((refl, (refl, tt)), inl refl), tt))))
+
+-- ---- a zero start mask: over this cipher, that of the zero key and the zero IV
+
+abbrev zeroed : List ℕ
+zeroed = replicate 16 0
+
+-- refused with 10, an empty run too
+zero-mask-refused : (sealRun toy zeroed zeroed 0 last [] 16) .answer ≡ refused 10
+unfolding computed
+zero-mask-refused = refl
+
+zero-mask-empty-refused : (sealRun toy zeroed zeroed 4000 middle [] 0) .answer ≡ refused 10
+unfolding computed
+zero-mask-empty-refused = refl
+
+-- a start mask that the key took the place of is none: it is 1 in each byte
+replaced-sealed : (sealRun toy aKey aKey 0 middle (replicate 16 3) 16) .answer ≡ given (record { first = 0; count = 1; preauthenticator = replicate 16 3 })
+unfolding computed
+replaced-sealed = refl
+
+-- the zero key with another IV is cut like any other
+abbrev zeroKey : Setting
+zeroKey = record { key = zeroed; work = sealing anIv []; pieces = [] ∷ [] }
+
+zeroKey-formed : WellFormed zeroKey
+unfolding computed
+zeroKey-formed = record { key-long = refl; fits = (refl, lit≤ tt); cut = tt; pieces-are = refl }
+
+zero-key-agrees : Agrees toy (callsOf toy) zeroKey (runAt 0 16 ∷ []) (afterAll (callsOf toy) zeroKey (start zeroKey) (runAt 0 16 ∷ []))
+unfolding computed
+zero-key-agrees = demand3 toy toy-lawful zeroKey refl zeroKey-formed (runAt 0 16 ∷ []) ((lit< tt, refl), tt)
 
 -- ---- opening: a message that was sealed, a record with a bit of its tag flipped, a record whose last block is not padded
 

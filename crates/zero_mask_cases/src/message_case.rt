@@ -50,7 +50,29 @@ fn sealed_anyway() -> [u8; 64] {
     r
 }
 
-// The first `size` bytes of that record, with its last byte as it is or changed.
+// And the record of one block with no padding: its tag is right too.
+fn unpadded_anyway() -> [u8; 48] {
+    let mut r = [0u8; 48];
+    bytes_at(
+        b"140F0F1011B5223D79587717FFD9EC3A3F5B8CC9EA855A0AFA7347D23E8D664E12BF1799A6BDD26BB02B1AA6EE233629",
+        0,
+        48,
+        &mut r,
+    );
+    r
+}
+
+pub fn unpadded_refused(room: usize, refusal: u8) -> usize
+    requires { ⌜ room ≤ 64 ⌝ }
+    ensures { λ r. ⌜ r ≤ 1 ⌝ }
+{
+    let key = [0u8; 16];
+    let sealed = unpadded_anyway();
+    let mut out = [0u8; 64];
+    answers(&key, &sealed, &mut out[0..room], refusal, b"")
+}
+
+// The first `size` bytes of the padded one, with its last byte as it is or changed.
 pub fn open_refused(key: usize, size: usize, changed: u8, room: usize, refusal: u8) -> usize
     requires { ⌜ key ≤ 32 ⌝ }
     requires { ⌜ size ≤ 64 ⌝ }

@@ -1,6 +1,7 @@
 // 10 from each of the six calls, and the rows around it.
 use crate::message_case::open_refused;
 use crate::message_case::seal_refused;
+use crate::message_case::unpadded_refused;
 use crate::record_case::close_refused;
 use crate::record_case::test_refused;
 use crate::run_case;
@@ -17,15 +18,15 @@ pub fn seal() -> usize {
         + seal_refused(16, 16, 20, 0, 10)
 }
 
-// The tag right; the tag wrong; too little room; both; a record cut short, of which the tag is wrong; and one of which not even the
-// padding is right.
+// A record of which tag and padding are right, with room and with too little; of which the tag differs, with room and with none; of which
+// the padding alone is wrong, with room and with none.
 pub fn open() -> usize {
     open_refused(16, 64, 0, 32, 10)
-        + open_refused(16, 64, 1, 32, 10)
         + open_refused(16, 64, 0, 31, 10)
+        + open_refused(16, 64, 1, 32, 10)
         + open_refused(16, 64, 1, 0, 10)
-        + open_refused(16, 48, 0, 64, 10)
-        + open_refused(16, 48, 0, 15, 10)
+        + unpadded_refused(16, 10)
+        + unpadded_refused(0, 10)
 }
 
 pub fn higher_of_seal() -> usize {
