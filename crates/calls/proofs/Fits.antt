@@ -17,7 +17,7 @@ use Rattle.mode.proofs.SealedLength.{sealed-length}
 use Rattle.calls.specs.Layout.{kindOf, laidOutLength}
 use Rattle.calls.proofs.LaidOut.{count-laidOut}
 
-run-aligned : (l : Bool) (bytes : List ℕ) → unalignedRun (kindOf l) bytes ≡ false → laidOutLength l (length bytes) % 16 ≡ 0
+pub run-aligned : (l : Bool) (bytes : List ℕ) → unalignedRun (kindOf l) bytes ≡ false → laidOutLength l (length bytes) % 16 ≡ 0
 unfolding kindOf laidOutLength unalignedRun unaligned
 run-aligned true bytes e = omega arith
 run-aligned false bytes e = eqb-true (length bytes % 16) 0 (not-false (eqb (length bytes % 16) 0) e)

@@ -1,23 +1,26 @@
 -- Runs laid out: lengths, blocks, and the table's conditions by the length.
-use mathlib.Core.Path.{_≡_, refl, sym, ap, _∙_}
-use mathlib.Core.Bool.{Bool, true, false}
-use mathlib.Core.List.{List, _∷_, _++_, append-assoc}
+use mathlib.Core.Path.{_≡_, refl, sym, ap, ap₂, _∙_}
+use mathlib.Core.Bool.{Bool, true, false, not}
+use mathlib.Core.List.{List, [], _∷_, _++_, append-assoc}
 use Prim.Native.Nat.{ℕ, _+_, _-_, _*_, _/_, _%_, _≤_}
 use native.Mathlib.Omega.{arith}
 use lib.ListN.{length, set}
+use lib.Dec.{eqb}
+use borrow.Author.Tests.{eq-eqb}
 use Rattle.blocks.specs.Bytes.{zeros}
 use Rattle.blocks.specs.Gf128.{jump}
 use Rattle.blocks.proofs.Zeros.{set-zeros, zeros-append}
 use Rattle.blocks.proofs.TimesX.{length-jump}
 use Rattle.mode.specs.Mode.{plaintext, zeroBlock, startMask, blocksOf, padded}
 use Rattle.mode.specs.Aes.{aes}
-use Rattle.mode.specs.Calls.{blocksOfRun, unalignedRun, passFrom}
+use Rattle.mode.specs.Table.{not16, unaligned, beyond, zeroMask}
+use Rattle.mode.specs.Calls.{Kind, blocksOfRun, unalignedRun, checkRunRows, passFrom}
 use Rattle.mode.proofs.Aes.{aes-lawful}
-use Rattle.mode.proofs.Blocks.{length-padded, count-middle, aligned, run-long}
+use Rattle.mode.proofs.Blocks.{length-padded, count-middle, run-long}
 use Rattle.mode.proofs.Laws.{start-long}
 use Rattle.mode.proofs.Runs.{output-long}
-use Rattle.mode.proofs.Rows.{misaligned}
 use Rattle.calls.specs.Layout.{kindOf, laidOut, laidOutLength}
+use Rattle.calls.specs.Work.{runRows}
 
 pub length-laidOut : (l : Bool) (bytes : List ℕ) → length (laidOut l bytes) ≡ laidOutLength l (length bytes)
 unfolding laidOut laidOutLength
@@ -32,15 +35,33 @@ blocks-laidOut false bytes = refl
 pub count-laidOut : (l : Bool) (bytes : List ℕ) → length (blocksOfRun (kindOf l) bytes) ≡ laidOutLength l (length bytes) / 16
 count-laidOut l bytes = ap length (blocks-laidOut l bytes) ∙ count-middle (laidOut l bytes) ∙ ap (λ (n : ℕ). n / 16) (length-laidOut l bytes)
 
-pub aligned-run : (l : Bool) (bytes : List ℕ) → laidOutLength l (length bytes) % 16 ≡ 0 → unalignedRun (kindOf l) bytes ≡ false
-unfolding kindOf laidOutLength unalignedRun
-aligned-run true bytes h = refl
-aligned-run false bytes h = aligned bytes h
+unaligned-laidOut : (l : Bool) (bytes : List ℕ) → not (eqb (laidOutLength l (length bytes) % 16) 0) ≡ unalignedRun (kindOf l) bytes
+unfolding kindOf laidOutLength unalignedRun unaligned
+unaligned-laidOut true bytes = ap not (eq-eqb ((length bytes / 16 * 16 + 16) % 16) 0 (omega arith))
+unaligned-laidOut false bytes = refl
 
-pub misaligned-run : (l : Bool) (bytes : List ℕ) → (laidOutLength l (length bytes) % 16 ≡ 0 → ⊥) → unalignedRun (kindOf l) bytes ≡ true
-unfolding kindOf laidOutLength unalignedRun
-misaligned-run true bytes h = absurd (h (omega arith))
-misaligned-run false bytes h = misaligned bytes h
+aligned-run : (l : Bool) (bytes : List ℕ) → laidOutLength l (length bytes) % 16 ≡ 0 → unalignedRun (kindOf l) bytes ≡ false
+aligned-run l bytes h = sym (unaligned-laidOut l bytes) ∙ ap not (eq-eqb (laidOutLength l (length bytes) % 16) 0 h)
+
+-- the rows that sealing and checking share: by the bytes, and by the length
+abbrev pub sharedRows : List ℕ → List ℕ → ℕ → Kind → List ℕ → List (ℕ × Bool)
+sharedRows key iv first kind bytes =
+    (1, not16 key)
+    ∷ (2, not16 iv)
+    ∷ (3, unalignedRun kind bytes)
+    ∷ (4, beyond first (length (blocksOfRun kind bytes)))
+    ∷ (10, zeroMask aes key iv)
+    ∷ []
+
+pub shared-rows : (key iv : List ℕ) (first : ℕ) (l : Bool) (bytes : List ℕ)
+    → runRows key iv first (laidOutLength l (length bytes)) ≡ sharedRows key iv first (kindOf l) bytes
+shared-rows key iv first l bytes =
+    ap₂ (λ (three four : Bool). (1, not16 key) ∷ (2, not16 iv) ∷ (3, three) ∷ (4, four) ∷ (10, zeroMask aes key iv) ∷ [])
+    (unaligned-laidOut l bytes) (ap (beyond first) (sym (count-laidOut l bytes)))
+
+pub check-rows : (key iv : List ℕ) (first : ℕ) (bytes : List ℕ) → runRows key iv first (length bytes) ≡ checkRunRows aes key iv first bytes
+unfolding kindOf laidOutLength unalignedRun blocksOfRun
+check-rows key iv first bytes = shared-rows key iv first false bytes
 
 -- a message laid out with its padding, from the message in front of zeros
 pub pad-there : (m : List ℕ) (room : ℕ) → length m / 16 * 16 + 16 ≤ room

@@ -5,6 +5,7 @@ use mathlib.Core.List.{List, [], _∷_, _++_}
 use mathlib.Core.Option.{Option, some, none as no-message}
 use Prim.Native.Nat.{ℕ, _+_, _*_, _/_, _%_, _-_, _≤_}
 use lib.ListN.{length}
+use lib.Dec.{eqb}
 use Rattle.blocks.specs.Bytes.{zeros}
 use Rattle.fips197.specs.KeyExpansion.{keyExpansion}
 use Rattle.mode.specs.declared.RunRecord.{RunRecord}
@@ -41,6 +42,16 @@ openFirstRows key sealed room =
     ∷ (3, notSealed sealed)
     ∷ (10, zeroMask aes key (ivPart sealed))
     ∷ (5, tooShort room (length (cipherPart sealed)))
+    ∷ []
+
+-- the rows that sealing and checking a run share, by the number of its bytes as it is laid out
+abbrev pub runRows : List ℕ → List ℕ → ℕ → ℕ → List (ℕ × Bool)
+runRows key iv first size =
+    (1, not16 key)
+    ∷ (2, not16 iv)
+    ∷ (3, not (eqb (size % 16) 0))
+    ∷ (4, beyond first (size / 16))
+    ∷ (10, zeroMask aes key iv)
     ∷ []
 
 -- a run's answer as the code gives it: with nothing refused, and with a refusal

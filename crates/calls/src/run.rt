@@ -10,15 +10,13 @@ ghost use Rattle.blocks.specs.Bytes.{zeros};
 ghost use Rattle.mode.specs.Mode.{plaintext, ciphertext, blocksOf};
 ghost use Rattle.mode.specs.Aes.{aes};
 ghost use Rattle.mode.specs.Table.{firstRow, limit};
-ghost use Rattle.mode.specs.Calls.{sealRunRows, checkRunRows, blocksOfRun, passFrom, runRecord, sealRun, checkRun, runAnswerOf, recordAnswerOf};
+ghost use Rattle.mode.specs.Calls.{sealRunRows, blocksOfRun, passFrom, runRecord, sealRun, checkRun, runAnswerOf, recordAnswerOf};
 ghost use Rattle.calls.specs.Layout.{Fresh, kindOf, laidOutLength};
-ghost use Rattle.calls.specs.Work.{runGiven, refusedRun};
+ghost use Rattle.calls.specs.Work.{runRows, runGiven, refusedRun};
 
-// ---- seal
-
-// The first row of the table that holds, or 0.
-fn seal_run_refusal(key: &[u8], iv: &[u8], first: u32, last: bool, bytes: &[u8], room: usize) -> u8
-    ensures { λ n. ⌜ n ≡ firstRow (sealRunRows aes (now (key .entry)) (now (iv .entry)) first (kindOf last) (now (bytes .entry)) room) ⌝ }
+// The first of the rows that sealing and checking a run share, or 0. The run has `size` bytes as it is laid out.
+fn run_refusal(key: &[u8], iv: &[u8], first: u32, size: usize) -> u8
+    ensures { λ n. ⌜ n ≡ firstRow (runRows (now (key .entry)) (now (iv .entry)) first size) ⌝ }
 {
     if key.len() != 16 {
         return 1;
@@ -26,7 +24,6 @@ fn seal_run_refusal(key: &[u8], iv: &[u8], first: u32, last: bool, bytes: &[u8],
     if iv.len() != 16 {
         return 2;
     }
-    let size = crate::text::laid_out_length(bytes, last);
     if size % 16 != 0 {
         return 3;
     }
@@ -35,6 +32,20 @@ fn seal_run_refusal(key: &[u8], iv: &[u8], first: u32, last: bool, bytes: &[u8],
     }
     if crate::prepare::zero_mask(key, iv) {
         return 10;
+    }
+    0
+}
+
+// ---- seal
+
+// The first row of the table that holds, or 0.
+fn seal_run_refusal(key: &[u8], iv: &[u8], first: u32, last: bool, bytes: &[u8], room: usize) -> u8
+    ensures { λ n. ⌜ n ≡ firstRow (sealRunRows aes (now (key .entry)) (now (iv .entry)) first (kindOf last) (now (bytes .entry)) room) ⌝ }
+{
+    let size = crate::text::laid_out_length(bytes, last);
+    let refusal = run_refusal(key, iv, first, size);
+    if refusal != 0 {
+        return refusal;
     }
     if room < size {
         return 5;
@@ -117,28 +128,6 @@ fn refused(refusal: u8) -> RunAnswer
 
 // ---- check
 
-// The first row of the table that holds, or 0.
-fn check_run_refusal(key: &[u8], iv: &[u8], first: u32, bytes: &[u8]) -> u8
-    ensures { λ n. ⌜ n ≡ firstRow (checkRunRows aes (now (key .entry)) (now (iv .entry)) first (now (bytes .entry))) ⌝ }
-{
-    if key.len() != 16 {
-        return 1;
-    }
-    if iv.len() != 16 {
-        return 2;
-    }
-    if bytes.len() % 16 != 0 {
-        return 3;
-    }
-    if mode::LIMIT < first as u64 + (bytes.len() / 16) as u64 {
-        return 4;
-    }
-    if crate::prepare::zero_mask(key, iv) {
-        return 10;
-    }
-    0
-}
-
 fn check_run_record(key: &[u8], iv: &[u8], first: u32, bytes: &[u8]) -> RunRecord
     requires { ⌜ length (now key) ≡ 16 ⌝ }
     requires { ⌜ length (now iv) ≡ 16 ⌝ }
@@ -163,7 +152,7 @@ fn check_run_record(key: &[u8], iv: &[u8], first: u32, bytes: &[u8]) -> RunRecor
 pub fn check_run(key: &[u8], iv: &[u8], first: u32, bytes: &[u8]) -> RecordAnswer
     ensures { λ a. ⌜ a ≡ recordAnswerOf (checkRun aes (now (key .entry)) (now (iv .entry)) first (now (bytes .entry))) ⌝ }
 {
-    let refusal = check_run_refusal(key, iv, first, bytes);
+    let refusal = run_refusal(key, iv, first, bytes.len());
     if refusal != 0 {
         return mode::refused(refusal);
     }

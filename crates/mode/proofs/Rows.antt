@@ -12,7 +12,7 @@ use borrow.Author.Tests.{eq-eqb, ne-eqb, le-ltb, lt-ltb}
 use Rattle.blocks.specs.Bytes.{zeros}
 use Rattle.mode.specs.Mode.{RunRecord}
 use Rattle.mode.specs.Table.{Answer, refused, given, decide, firstRow, limit, longestMessage, longestSealed, not16, unaligned, tooLong, notSealed, beyond, tooFar, notWhole}
-use Rattle.mode.specs.Calls.{outcomeBy}
+use Rattle.mode.specs.Calls.{outcomeBy, number}
 
 -- ---- the first row
 
@@ -62,6 +62,23 @@ first-passes (row ∷ rows) more a t e = by (row .0) (row .1) t (λ u d. first-p
         → cond b k (firstRow rows) ≡ 0 → cond b (refused k) (decide (rows ++ more) a) ≡ decide more a
     by k false t f e = f (last-of (not (eqb k 0)) (numbered rows) t) e
     by k true t f e = absurd (never k t e)
+
+-- the same of the first row's number
+row-number : (rows : List (ℕ × Bool)) → firstRow rows ≡ number {A = Unit {0}} (decide rows tt)
+unfolding firstRow decide number
+row-number [] = refl
+row-number (row ∷ rows) = by (row .1) (row-number rows)
+  where
+    by : (t : Bool) → firstRow rows ≡ number {A = Unit {0}} (decide rows tt) → cond t (row .0) (firstRow rows) ≡ number {A = Unit {0}} (cond t (refused (row .0)) (decide rows tt))
+    by true e = refl
+    by false e = e
+
+pub front-refuses : (rows more : List (ℕ × Bool)) (n : ℕ) → firstRow rows ≡ n → (n ≡ 0 → ⊥) → firstRow (rows ++ more) ≡ n
+unfolding number
+front-refuses rows more n e h = row-number (rows ++ more) ∙ ap number (first-refuses rows more tt n e h)
+
+pub front-passes : (rows more : List (ℕ × Bool)) → T (numbered rows) → firstRow rows ≡ 0 → firstRow (rows ++ more) ≡ firstRow more
+front-passes rows more t e = row-number (rows ++ more) ∙ ap number (first-passes rows more tt t e) ∙ sym (row-number more)
 
 pub no-more-rows : {A : Type 0} (a : A) → decide [] a ≡ given a
 unfolding decide

@@ -1,95 +1,86 @@
--- Row by row.
+-- The rows that checking has too, and then 5.
 use borrow.Author.Needs.{needs}
 use borrow.Author.Tests.{le-ltb, lt-ltb}
 use mathlib.Core.Path.{_≡_, sym, ap, _∙_}
-use Prim.Native.Nat.{ℕ, _+_, _-_, _*_, _/_, _%_, _≤_, _<_}
+use mathlib.Core.Bool.{Bool}
+use mathlib.Core.List.{List, [], _∷_}
+use Prim.Native.Nat.{ℕ, _*_, _≤_, _<_}
 use native.Mathlib.Omega.{arith}
 use lib.ListN.{length}
-use Rattle.mode.specs.Table.{limit}
-use Rattle.mode.specs.Calls.{blocksOfRun}
-use Rattle.mode.proofs.Runs.{is16, within}
-use Rattle.mode.proofs.Rows.{row-holds, row-passes, no-row, isnt16, is-beyond}
+use Rattle.mode.specs.Aes.{aes}
+use Rattle.mode.specs.Table.{firstRow, tooShort}
+use Rattle.mode.specs.Calls.{blocksOfRun, sealRunRows}
+use Rattle.mode.proofs.Rows.{row-holds, row-passes, no-row, front-refuses, front-passes}
+use Rattle.mode.proofs.Passed.{head-passed, tail-passed}
 use Rattle.calls.specs.Layout.{kindOf, laidOutLength}
-use Rattle.calls.proofs.LaidOut.{count-laidOut, aligned-run, misaligned-run}
+use Rattle.calls.specs.Work.{runRows}
+use Rattle.calls.proofs.Fits.{run-aligned}
+use Rattle.calls.proofs.LaidOut.{count-laidOut, sharedRows, shared-rows}
 use Rattle.calls.proofs.run.seal_run_refusal.Statement.{statement}
 use Rattle.calls.proofs.run.seal_run_refusal.Tie as tie
 
-returns : tie.Need-returns
-returns c = let a = c .before .before .before .before .args in sym (row-holds 1 _ _ (isnt16 (a .key .now) (c .if1 .taken)))
+module _ (key iv : List ℕ) (first : ℕ) (l : Bool) (bytes : List ℕ) (room : ℕ) where
+  abbrev size : ℕ
+  size = laidOutLength l (length bytes)
 
-returns-2 : tie.Need-returns-2
-returns-2 c =
+  abbrev needed : ℕ
+  needed = 16 * length (blocksOfRun (kindOf l) bytes)
+
+  abbrev front : List (ℕ × Bool)
+  front = sharedRows key iv first (kindOf l) bytes
+
+  shared-refuse : (n : ℕ) → n ≡ firstRow (runRows key iv first size) → (n ≡ 0 → ⊥) → n ≡ firstRow (sealRunRows aes key iv first (kindOf l) bytes room)
+  shared-refuse n e h = sym (front-refuses front ((5, tooShort room needed) ∷ []) n (ap firstRow (sym (shared-rows key iv first l bytes)) ∙ sym e) h)
+
+  module _ (e : firstRow (runRows key iv first size) ≡ 0) where
+    none : firstRow front ≡ 0
+    none = ap firstRow (sym (shared-rows key iv first l bytes)) ∙ e
+
+    five-left : firstRow (sealRunRows aes key iv first (kindOf l) bytes room) ≡ firstRow ((5, tooShort room needed) ∷ [])
+    five-left = front-passes front ((5, tooShort room needed) ∷ []) tt none
+
+    needed-is : needed ≡ size
+    needed-is =
+        let a = run-aligned l bytes (head-passed 2 _ _ (tail-passed 1 _ _ (tail-passed 0 _ _ none))) in
+        omega (arith, count-laidOut l bytes, a)
+
+    short : room < size → 5 ≡ firstRow (sealRunRows aes key iv first (kindOf l) bytes room)
+    short h = sym (five-left ∙ row-holds 5 _ _ (lt-ltb room needed (rw needed-is h)))
+
+    enough : size ≤ room → 0 ≡ firstRow (sealRunRows aes key iv first (kindOf l) bytes room)
+    enough h = sym (five-left ∙ row-passes 5 _ _ (le-ltb room needed (rw needed-is h)) ∙ no-row)
+
+-- the shared rows, at the length as it is laid out
+shared-at : (c : tie.After-run-refusal)
+    → let a = c .before .before .before .before .before .args in
+    c .run-refusal .result ≡ firstRow (runRows (a .key .now) (a .iv .now) (a .first) (laidOutLength (a .last) (length (a .bytes .now))))
+shared-at c =
     let a = c .before .before .before .before .before .args in
-    sym (row-passes 1 _ _ (is16 (a .key .now) (c .before .if1 .left)) ∙ row-holds 2 _ _ (isnt16 (a .iv .now) (c .if2 .taken)))
+    c .run-refusal .ensures ∙ ap (λ (n : ℕ). firstRow (runRows (a .key .now) (a .iv .now) (a .first) n)) (c .before .laid-out-length .ensures)
 
 laid-out-length-requires : tie.Need-laid-out-length-requires
 laid-out-length-requires c κs = search needs
 
+run-refusal-requires : tie.Need-run-refusal-requires
+run-refusal-requires c κs = search needs
+
+returns : tie.Need-returns
+returns c =
+    let a = c .before .before .before .before .before .before .args in
+    shared-refuse (a .key .now) (a .iv .now) (a .first) (a .last) (a .bytes .now) (a .room) _ (shared-at (c .before)) (c .if1 .taken)
+
+returns-2 : tie.Need-returns-2
+returns-2 c =
+    let a = c .before .before .before .before .before .before .before .args in
+    let h : a .room < laidOutLength (a .last) (length (a .bytes .now)) = omega (arith, c .before .before .before .laid-out-length .ensures) in
+    short (a .key .now) (a .iv .now) (a .first) (a .last) (a .bytes .now) (a .room) (sym (shared-at (c .before .before)) ∙ c .before .if1 .left) h
+
 returns-3 : tie.Need-returns-3
 returns-3 c =
     let a = c .before .before .before .before .before .before .before .args in
-    let l = c .before .laid-out-length in
-    let e : l .result ≡ laidOutLength (a .last) (length (a .bytes .now)) = l .ensures in
-    sym (row-passes 1 _ _ (is16 (a .key .now) (c .before .before .before .if1 .left)) ∙ row-passes 2 _ _ (is16 (a .iv .now) (c .before .before .if2 .left)) ∙ row-holds 3 _ _ (misaligned-run (a .last) (a .bytes .now) (λ d. c .if3 .taken (ap (λ (m : ℕ). m % 16) e ∙ d))))
-
-add-if4 : tie.Need-add-if4
-add-if4 c = search needs
-
-returns-4 : tie.Need-returns-4
-returns-4 c =
-    let a = c .before .before .before .before .before .before .before .before .args in
-    let l = c .before .before .laid-out-length in
-    let e : l .result ≡ laidOutLength (a .last) (length (a .bytes .now)) = l .ensures in
-    let k : length (blocksOfRun (kindOf (a .last)) (a .bytes .now)) ≡ l .result / 16 = count-laidOut (a .last) (a .bytes .now) ∙ ap (λ (m : ℕ). m / 16) (sym e) in
-    let n : limit < a .first + length (blocksOfRun (kindOf (a .last)) (a .bytes .now)) = rw k (omega arith) in
-    sym (row-passes 1 _ _ (is16 (a .key .now) (c .before .before .before .before .if1 .left)) ∙ row-passes 2 _ _ (is16 (a .iv .now) (c .before .before .before .if2 .left)) ∙ row-passes 3 _ _ (aligned-run (a .last) (a .bytes .now) (ap (λ (m : ℕ). m % 16) (sym e) ∙ c .before .if3 .left)) ∙ row-holds 4 _ _ (is-beyond (a .first) _ n))
-
-zero-mask-requires : tie.Need-zero-mask-requires
-zero-mask-requires c κs = search needs
-
-returns-5 : tie.Need-returns-5
-returns-5 c =
-    let a = c .before .before .before .before .before .before .before .before .before .before .args in
-    let l = c .before .before .before .before .laid-out-length in
-    let e : l .result ≡ laidOutLength (a .last) (length (a .bytes .now)) = l .ensures in
-    let k : length (blocksOfRun (kindOf (a .last)) (a .bytes .now)) ≡ l .result / 16 = count-laidOut (a .last) (a .bytes .now) ∙ ap (λ (m : ℕ). m / 16) (sym e) in
-    let n : a .first + length (blocksOfRun (kindOf (a .last)) (a .bytes .now)) ≤ limit = rw k (omega arith) in
-    sym (row-passes 1 _ _ (is16 (a .key .now) (c .before .before .before .before .before .before .if1 .left)) ∙ row-passes 2 _ _ (is16 (a .iv .now) (c .before .before .before .before .before .if2 .left)) ∙ row-passes 3 _ _ (aligned-run (a .last) (a .bytes .now) (ap (λ (m : ℕ). m % 16) (sym e) ∙ c .before .before .before .if3 .left)) ∙ row-passes 4 _ _ (within (a .first) _ n)
-    ∙ row-holds 10 _ _ (sym (c .before .zero-mask .ensures) ∙ c .if5 .taken))
-
-returns-6 : tie.Need-returns-6
-returns-6 c =
-    let a = c .before .before .before .before .before .before .before .before .before .before .before .args in
-    let l = c .before .before .before .before .before .laid-out-length in
-    let e : l .result ≡ laidOutLength (a .last) (length (a .bytes .now)) = l .ensures in
-    let k : length (blocksOfRun (kindOf (a .last)) (a .bytes .now)) ≡ l .result / 16 = count-laidOut (a .last) (a .bytes .now) ∙ ap (λ (m : ℕ). m / 16) (sym e) in
-    let n : a .first + length (blocksOfRun (kindOf (a .last)) (a .bytes .now)) ≤ limit = rw k (omega arith) in
-    let m : a .room < 16 * length (blocksOfRun (kindOf (a .last)) (a .bytes .now)) = rw k (omega (arith, c .before .before .before .before .if3 .left)) in
-    sym (row-passes 1 _ _ (is16 (a .key .now) (c .before .before .before .before .before .before .before .if1 .left)) ∙ row-passes 2 _ _ (is16 (a .iv .now) (c .before .before .before .before .before .before .if2 .left)) ∙ row-passes 3 _ _ (aligned-run (a .last) (a .bytes .now) (ap (λ (m : ℕ). m % 16) (sym e) ∙ c .before .before .before .before .if3 .left)) ∙ row-passes 4 _ _ (within (a .first) _ n)
-    ∙ row-passes 10 _ _ (sym (c .before .before .zero-mask .ensures) ∙ c .before .if5 .left) ∙ row-holds 5 _ _ (lt-ltb (a .room) _ m))
-
-returns-7 : tie.Need-returns-7
-returns-7 c =
-    let a = c .before .before .before .before .before .before .before .before .before .before .before .args in
-    let l = c .before .before .before .before .before .laid-out-length in
-    let e : l .result ≡ laidOutLength (a .last) (length (a .bytes .now)) = l .ensures in
-    let k : length (blocksOfRun (kindOf (a .last)) (a .bytes .now)) ≡ l .result / 16 = count-laidOut (a .last) (a .bytes .now) ∙ ap (λ (m : ℕ). m / 16) (sym e) in
-    let n : a .first + length (blocksOfRun (kindOf (a .last)) (a .bytes .now)) ≤ limit = rw k (omega arith) in
-    let m : 16 * length (blocksOfRun (kindOf (a .last)) (a .bytes .now)) ≤ a .room = rw k (omega (arith, c .before .before .before .before .if3 .left)) in
-    sym (row-passes 1 _ _ (is16 (a .key .now) (c .before .before .before .before .before .before .before .if1 .left)) ∙ row-passes 2 _ _ (is16 (a .iv .now) (c .before .before .before .before .before .before .if2 .left)) ∙ row-passes 3 _ _ (aligned-run (a .last) (a .bytes .now) (ap (λ (m : ℕ). m % 16) (sym e) ∙ c .before .before .before .before .if3 .left)) ∙ row-passes 4 _ _ (within (a .first) _ n)
-    ∙ row-passes 10 _ _ (sym (c .before .before .zero-mask .ensures) ∙ c .before .if5 .left) ∙ row-passes 5 _ _ (le-ltb (a .room) _ m) ∙ no-row)
+    let h : laidOutLength (a .last) (length (a .bytes .now)) ≤ a .room = omega (arith, c .before .before .before .laid-out-length .ensures) in
+    enough (a .key .now) (a .iv .now) (a .first) (a .last) (a .bytes .now) (a .room) (sym (shared-at (c .before .before)) ∙ c .before .if1 .left) h
 
 pub seal-run-refusal-spec : {M : Type 1} → statement M
 seal-run-refusal-spec =
-    tie.close
-    (tie.spec
-    returns
-    returns-2
-    laid-out-length-requires
-    returns-3
-    add-if4
-    returns-4
-    zero-mask-requires
-    returns-5
-    returns-6
-    returns-7)
+    tie.close (tie.spec laid-out-length-requires run-refusal-requires returns returns-2 returns-3)
