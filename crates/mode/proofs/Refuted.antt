@@ -3,20 +3,20 @@
 use mathlib.Core.Path.{_≡_, refl, sym, ap, _∙_}
 use mathlib.Core.Logic.{inl, inr, _↔_}
 use mathlib.Core.List.{List, [], _∷_, _++_}
-use mathlib.Core.Bool.{cond}
+use mathlib.Core.Bool.{Bool, cond}
 use Prim.Native.Nat.{ℕ, _+_, _*_, _-_}
 use native.Mathlib.Omega.{arith}
 use lib.ListN.{length, getD, replicate}
 use lib.Dec.{lit<, lit≤, ltb, eqb}
-use Rattle.blocks.specs.Bytes.{xorBytes, concat}
+use Rattle.blocks.specs.Bytes.{xorBytes, same, concat}
 use Rattle.blocks.specs.Gf128.{jump}
-use Rattle.mode.specs.Mode.{plaintext, ciphertext, RunRecord, blocksOf, startMask, tagFrom, UnbrokenCheck}
+use Rattle.mode.specs.Mode.{plaintext, ciphertext, RunRecord, zeroBlock, blocksOf, encrypt, startMask, tagFrom, UnbrokenCheck}
 use Rattle.mode.specs.Table.{Answer, refused, given, decide, anyBeyond, apart, none}
 use Rattle.mode.specs.Calls.{Kind, middle, last, blocksOfRun, Outcome, outcomeBy, joined, joinedAll, blank, joinTwo, joinTwoRows, joinList, joinListRows, passFrom, runRecord, sealRun, checkRun, checkRunRows, close, closeRows, test, Calls}
 use Rattle.mode.specs.Parallel.{Run, Segment, recorded, Call, runAt, joinPair, joinMany, Allowed, recordBy, start, afterAll, EachCall}
 use Rattle.mode.specs.Demands.{Gives, Refuses, Expected, Whole, Agrees, Demand3}
 use Rattle.mode.proofs.Decisions.{outcome-answer}
-use Rattle.mode.proofs.Toy.{toy, computed, aKey, anIv, onePiece, onePiece-formed, oneText, oneChecked, oneChecked-formed, twoChecked, twoChecked-formed, threePieces, threePieces-formed}
+use Rattle.mode.proofs.Toy.{toy, computed, aKey, anIv, onePiece, onePiece-formed, zeroKey, zeroKey-formed, replaced, replaced-formed, oneText, oneChecked, oneChecked-formed, twoChecked, twoChecked-formed, threePieces, threePieces-formed}
 
 -- ---- one run, of the empty message
 
@@ -238,6 +238,28 @@ roomIgnored key iv first kind bytes room = sealRun toy key iv first kind bytes 6
 pub room-ignored-refuted : Demand3 toy (sealingBy roomIgnored) → ⊥
 unfolding computed roomIgnored
 room-ignored-refuted d = no-answer 5 oneRecord (sym (short-forced (sealingBy roomIgnored) d .answers))
+
+-- a sealer that gives 10 to every key of zeros, and one that asks 10 before the key is tried as the replacement
+pub asksTenBy : (List ℕ → List ℕ → Bool) → List ℕ → List ℕ → ℕ → Kind → List ℕ → ℕ → Outcome RunRecord
+asksTenBy ten key iv first kind bytes room =
+    let blocks = blocksOfRun kind bytes in
+    outcomeBy (decide ((10, ten key iv) ∷ []) (runRecord toy plaintext key iv first blocks)) ((passFrom toy plaintext key iv first blocks) .output) room
+
+abbrev ofZeroKeys : List ℕ → List ℕ → Bool
+ofZeroKeys key iv = same key zeroBlock
+
+pub zero-key-refuted : Demand3 toy (sealingBy (asksTenBy ofZeroKeys)) → ⊥
+unfolding computed asksTenBy
+zero-key-refuted d =
+    no-answer 10 _ ((d zeroKey refl zeroKey-formed (runAt 0 16 ∷ []) ((lit< tt, refl), tt)) .answers .0 .with-room (lit≤ tt) .answers)
+
+abbrev beforeReplaced : List ℕ → List ℕ → Bool
+beforeReplaced key iv = same (xorBytes (encrypt toy key (xorBytes iv key)) key) zeroBlock
+
+pub before-replaced-refuted : Demand3 toy (sealingBy (asksTenBy beforeReplaced)) → ⊥
+unfolding computed asksTenBy
+before-replaced-refuted d =
+    no-answer 10 _ ((d replaced refl replaced-formed (runAt 0 16 ∷ []) ((lit< tt, refl), tt)) .answers .0 .with-room (lit≤ tt) .answers)
 
 -- a checker that runs the wrong half
 pub wrongHalf : List ℕ → List ℕ → ℕ → List ℕ → Answer RunRecord

@@ -1,4 +1,4 @@
--- A lawful cipher that is easy to compute with, and three settings over it: what the statements of the demands come to in small cases.
+-- A lawful cipher that is easy to compute with, and settings over it: what the statements of the demands come to in small cases.
 use mathlib.Core.Path.{_≡_, refl, sym, _∙_}
 use mathlib.Core.List.{List, [], _∷_, _++_}
 use Prim.Native.Nat.{ℕ}
@@ -7,7 +7,7 @@ use lib.Dec.{lit≤}
 use Rattle.blocks.specs.Bytes.{xorBytes, firstBlocks, same, concat}
 use Rattle.blocks.specs.Gf128.{timesX, jump, carry, shiftLeft, reduction}
 use Rattle.blocks.proofs.XorBytes.{xorBytes-cancel, block-xor}
-use Rattle.mode.specs.Mode.{Cipher, Lawful, blocksOf, padded, encrypt, startMask, middletext, written, pass, unbroken, recordOf, ivPart, cipherPart, tagPart, tagFrom, unbrokenTag, sealedRecord}
+use Rattle.mode.specs.Mode.{Cipher, Lawful, zeroBlock, blocksOf, padded, encrypt, startMask, middletext, written, pass, unbroken, recordOf, ivPart, cipherPart, tagPart, tagFrom, unbrokenTag, sealedRecord}
 use Rattle.mode.specs.Table.{decide, not16, unaligned, beyond, anyBeyond, apart, none, notWhole, notSealed, zeroMask}
 use Rattle.mode.specs.Calls.{unalignedRun, blocksOfRun, outcomeBy, joined, joinedOnto, joinedAll, joinTwo, joinList, passFrom, runRecord, sealRun, checkRun, closingTag, close, test, openSealed, openRows, notPadded, orEmpty, unpadded, unpadFrom, plaintextOf, decrypted}
 use Rattle.mode.specs.Parallel.{sealing, checking, sourceOf, ivOf, textOf, lastKind, allBlocks, Fits, Cut, Setting, WellFormed, runsFrom, blocksOfRuns, runsIn, recordIn, bytesIn, isRecorded, runsOf, bytesOfSegments, blocksIn, consecutive, AllRecorded, Allowed, mergeBy, recordBy, headOr, firstRun, empties, start, roomOf, outcomeOfRun, runOutcome, answerOf, after, afterAll, EachCall}
@@ -53,6 +53,21 @@ onePiece = record { key = aKey; work = sealing anIv []; pieces = [] ∷ [] }
 pub onePiece-formed : WellFormed onePiece
 unfolding computed
 onePiece-formed = record { key-long = refl; fits = (refl, lit≤ tt); cut = tt; pieces-are = refl }
+
+-- the same under a key of zeros; and under an IV that is the key, so that step 1 comes to zero and the key is the start mask
+abbrev pub zeroKey : Setting
+zeroKey = record { key = zeroBlock; work = sealing anIv []; pieces = [] ∷ [] }
+
+pub zeroKey-formed : WellFormed zeroKey
+unfolding computed
+zeroKey-formed = record { key-long = refl; fits = (refl, lit≤ tt); cut = tt; pieces-are = refl }
+
+abbrev pub replaced : Setting
+replaced = record { key = aKey; work = sealing aKey []; pieces = [] ∷ [] }
+
+pub replaced-formed : WellFormed replaced
+unfolding computed
+replaced-formed = record { key-long = refl; fits = (refl, lit≤ tt); cut = tt; pieces-are = refl }
 
 -- the sealed record of the empty message with some tag, its ciphertext in one piece: the tag is 7 in each byte (proofs/Refuted.antt)
 abbrev pub oneText : List ℕ

@@ -8,13 +8,13 @@ use Prim.Native.Nat.{ℕ}
 use lib.ListN.{take, getD, replicate}
 use lib.Dec.{lit<, lit≤}
 use lib.Bits.{bitXor}
-use Rattle.mode.specs.Mode.{plaintext, RunRecord, sealedRecord, unbroken, unbrokenTag}
+use Rattle.mode.specs.Mode.{plaintext, RunRecord, zeroBlock, sealedRecord, unbroken, unbrokenTag}
 use Rattle.mode.specs.Table.{refused, given}
 use Rattle.mode.specs.Calls.{middle, last, number, sealRun, callsOf, openSealed}
 use Rattle.mode.specs.Parallel.{sealing, Setting, WellFormed, Run, Segment, recorded, blocksIn, Call, runAt, joinPair, joinMany, Allowed, start, answerOf, after, afterAll, EachCall}
 use Rattle.mode.specs.Demands.{Agrees}
 use Rattle.mode.proofs.Demand3.{demand3}
-use Rattle.mode.proofs.Toy.{toy, toy-lawful, computed, aKey, anIv, twoChecked}
+use Rattle.mode.proofs.Toy.{toy, toy-lawful, computed, aKey, anIv, zeroKey, zeroKey-formed, twoChecked}
 
 -- ---- over a message
 
@@ -94,15 +94,12 @@ checks-allowed = ((lit< tt, refl), ((lit< tt, refl), (((refl, (refl, tt)), inr r
 
 -- ---- a zero start mask: over this cipher, that of the zero key and the zero IV
 
-abbrev zeroed : List ℕ
-zeroed = replicate 16 0
-
 -- refused with 10, an empty run too
-zero-mask-refused : (sealRun toy zeroed zeroed 0 last [] 16) .answer ≡ refused 10
+zero-mask-refused : (sealRun toy zeroBlock zeroBlock 0 last [] 16) .answer ≡ refused 10
 unfolding computed
 zero-mask-refused = refl
 
-zero-mask-empty-refused : (sealRun toy zeroed zeroed 4000 middle [] 0) .answer ≡ refused 10
+zero-mask-empty-refused : (sealRun toy zeroBlock zeroBlock 4000 middle [] 0) .answer ≡ refused 10
 unfolding computed
 zero-mask-empty-refused = refl
 
@@ -112,13 +109,6 @@ unfolding computed
 replaced-sealed = refl
 
 -- the zero key with another IV is cut like any other
-abbrev zeroKey : Setting
-zeroKey = record { key = zeroed; work = sealing anIv []; pieces = [] ∷ [] }
-
-zeroKey-formed : WellFormed zeroKey
-unfolding computed
-zeroKey-formed = record { key-long = refl; fits = (refl, lit≤ tt); cut = tt; pieces-are = refl }
-
 zero-key-agrees : Agrees toy (callsOf toy) zeroKey (runAt 0 16 ∷ []) (afterAll (callsOf toy) zeroKey (start zeroKey) (runAt 0 16 ∷ []))
 unfolding computed
 zero-key-agrees = demand3 toy toy-lawful zeroKey refl zeroKey-formed (runAt 0 16 ∷ []) ((lit< tt, refl), tt)
