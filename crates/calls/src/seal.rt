@@ -25,10 +25,12 @@ fn seal_refusal(key: &[u8], iv: &[u8], message: &[u8], room: usize) -> u8
     if mode::LONGEST_MESSAGE < message.len() {
         return 3;
     }
-    if crate::prepare::zero_mask(key, iv) {
+    let needed = message.len() / 16 * 16 + 48;
+    let zero = crate::prepare::zero_mask(key, iv);
+    if zero {
         return 10;
     }
-    if room < message.len() / 16 * 16 + 48 {
+    if room < needed {
         return 5;
     }
     0

@@ -27,6 +27,12 @@ returns-3 c =
     let a = c .before .before .before .before .before .before .args in
     sym (row-passes 1 _ _ (is16 (a .key .now) (c .before .before .if1 .left)) ∙ row-passes 2 _ _ (is16 (a .iv .now) (c .before .if2 .left)) ∙ row-holds 3 _ _ (too-long (a .message .now) (c .if3 .taken)))
 
+mul-needed : tie.Need-mul-needed
+mul-needed c = search needs
+
+add-needed : tie.Need-add-needed
+add-needed c = search needs
+
 zero-mask-requires : tie.Need-zero-mask-requires
 zero-mask-requires c κs = search needs
 
@@ -34,12 +40,6 @@ returns-4 : tie.Need-returns-4
 returns-4 c =
     let a = c .before .before .before .before .before .before .before .before .args in
     sym (row-passes 1 _ _ (is16 (a .key .now) (c .before .before .before .before .if1 .left)) ∙ row-passes 2 _ _ (is16 (a .iv .now) (c .before .before .before .if2 .left)) ∙ row-passes 3 _ _ (not-too-long (a .message .now) (c .before .before .if3 .left)) ∙ row-holds 10 _ _ (sym (c .before .zero-mask .ensures) ∙ c .if4 .taken))
-
-mul-if5 : tie.Need-mul-if5
-mul-if5 c = search needs
-
-add-if5 : tie.Need-add-if5
-add-if5 c = search needs
 
 returns-5 : tie.Need-returns-5
 returns-5 c =
@@ -62,9 +62,9 @@ seal-refusal-spec =
     returns
     returns-2
     returns-3
+    mul-needed
+    add-needed
     zero-mask-requires
     returns-4
-    mul-if5
-    add-if5
     returns-5
     returns-6)
