@@ -3,7 +3,7 @@ use mathlib.Core.Path.{_≡_}
 use mathlib.Core.Bool.{Bool, not}
 use mathlib.Core.List.{List, [], _∷_, _++_}
 use mathlib.Core.Option.{Option, some, none as no-message}
-use Prim.Native.Nat.{ℕ, _+_, _*_, _/_, _%_, _-_, _≤_}
+use Prim.Native.Nat.{ℕ, _+_, _/_, _%_, _-_, _≤_}
 use lib.ListN.{length}
 use lib.Dec.{eqb}
 use Rattle.blocks.specs.Bytes.{zeros}

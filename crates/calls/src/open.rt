@@ -1,13 +1,10 @@
 // Open a sealed record.
 use mode::Written;
 ghost use mathlib.Core.Path.{_≡_};
-ghost use mathlib.Core.List.{_++_};
 ghost use Prim.Native.Nat.{_-_, _%_, _≤_};
 ghost use lib.ListN.{length, take};
-ghost use Rattle.blocks.specs.Bytes.{zeros};
-ghost use Rattle.mode.specs.Mode.{cipherPart};
 ghost use Rattle.mode.specs.Aes.{aes};
-ghost use Rattle.mode.specs.Table.{firstRow, notSealed};
+ghost use Rattle.mode.specs.Table.{firstRow};
 ghost use Rattle.mode.specs.Calls.{openSealed, writtenOf};
 ghost use Rattle.calls.specs.Layout.{Fresh};
 ghost use Rattle.calls.specs.Work.{openFirstRows, messageEnd, released, SealedLengths, TextOpened};

@@ -11,9 +11,9 @@ use lib.Seq.{split-at, set-split, take-append-seam, length-take-le}
 use lib.Dec.{eqb, leb}
 use borrow.Author.Tests.{eq-eqb, ne-eqb, eqb-true, le-leb, lt-leb}
 use Rattle.blocks.specs.Bytes.{same, concat}
-use Rattle.mode.specs.Mode.{Cipher, Lawful, ciphertext, RunRecord, pass, unbroken, unbrokenTag, tagFrom, recordOf, startMask, blocksOf, padded, zeroBlock, cipherPart, tagPart, UnbrokenCheck}
+use Rattle.mode.specs.Mode.{Cipher, Lawful, RunRecord, pass, unbroken, unbrokenTag, tagFrom, recordOf, startMask, blocksOf, padded, zeroBlock, cipherPart, tagPart, UnbrokenCheck}
 use Rattle.mode.specs.Table.{Answer, refused, given, decide, beyond, anyBeyond, apart, none, notWhole, zeroMask, limit}
-use Rattle.mode.specs.Calls.{Kind, middle, last, blocksOfRun, unalignedRun, Outcome, outcomeBy, joined, joinedOnto, joinedAll, joinTwo, joinList, closingTag, close, test, callsOf}
+use Rattle.mode.specs.Calls.{Kind, middle, last, blocksOfRun, unalignedRun, Outcome, outcomeBy, joinedOnto, joinedAll, joinTwo, joinList, closingTag, close, test, callsOf}
 use Rattle.mode.specs.Parallel.{Work, sealing, checking, sourceOf, ivOf, textOf, lastKind, allBlocks, Fits, Cut, Setting, WellFormed, Run, runsFrom, Segment, pending, recorded, blocksOfRuns, runsIn, recordIn, bytesIn, isRecorded, runsOf, bytesOfSegments, blocksIn, noSegment, segment, Call, runAt, joinPair, joinMany, consecutive, AllRecorded, recordsAt, Allowed, mergeBy, recordBy, headOr, firstRun, empties, start, roomOf, outcomeOfRun, runOutcome, answerOf, after, afterAll, EachCall}
 use Rattle.mode.specs.Demands.{NonzeroMask, whole, wholeTag, recordOfSegments, ciphertextOfSegment, ExpectedOfRun, ExpectedOfJoin, Expected, TestedAs, Whole, Demand3}
 use Rattle.mode.proofs.Decisions.{outcome-gives, outcome-refuses}

@@ -8,7 +8,6 @@ use Prim.Native.Nat.{ℕ, suc, _+_, _*_, _%_, _≤_, _<_}
 use lib.IntN.{ℤ, pos, negsuc, negℤ, negℤ-negℤ}
 use lib.ListN.{length}
 use native.Mathlib.Omega.{arith}
-use borrow.Author.Tests.{ltb-false}
 use Rattle.blocks.specs.Bytes.{Block, same, concat}
 use Rattle.blocks.proofs.Sign.{abs-neg}
 use Rattle.mode.specs.Mode.{Cipher, ciphertext, RunRecord, zeroBlock, encrypt, blocksOf, ivPart, cipherPart, tagPart, sealedRecord, unbrokenTag, UnbrokenCheck}
@@ -17,7 +16,6 @@ use Rattle.mode.specs.Calls.{Kind, middle, last, blocksOfRun, unalignedR
 use Rattle.mode.specs.Parallel.{sealing, checking, ivOf, lastKind, textOf, Fits, Cut, Setting, WellFormed, Segment, isRecorded, segment, Call, runAt, joinPair, joinMany, consecutive, AllRecorded, recordsAt, Allowed, start, afterAll, EachCall}
 use Rattle.mode.specs.Demands.{Gives, InTable, NonzeroMask, Demand2a, Demand2d, Agrees, Demand3, ZeroMask, without, JumpsTo, SignedJump}
 use Rattle.mode.proofs.Passed.{has-16}
-use Rattle.mode.proofs.Decisions.{given-rows, outcome-answer}
 use Rattle.mode.proofs.Demand2.{sealing-given, message-fits, sealed-lengths}
 
 -- ---- what may be cut

@@ -3,7 +3,7 @@
 use mathlib.Core.Path.{_≡_, refl, sym, ap, subst, _∙_}
 use mathlib.Core.List.{List, [], _∷_}
 use mathlib.Core.Bool.{Bool, true, false, not}
-use Prim.Native.Nat.{ℕ, _+_, _*_, _-_, _%_, _≤_}
+use Prim.Native.Nat.{ℕ, _+_, _-_, _%_, _≤_}
 use native.Mathlib.Nat.{add-assoc, add-comm, add-zero}
 use native.Mathlib.Omega.{arith}
 use lib.ListN.{length, take, replicate}
@@ -15,7 +15,7 @@ use Rattle.blocks.specs.Gf128.{jump}
 use Rattle.blocks.proofs.XorBytes.{xorBytes-assoc, xorBytes-zeros}
 use Rattle.blocks.proofs.TimesX.{jump-xor, jump-add, length-jump, block-jump}
 use Rattle.mode.specs.Mode.{Cipher, Lawful, plaintext, ciphertext, RunRecord, zeroBlock, startMask, blocksOf, padded}
-use Rattle.mode.specs.Table.{Answer, refused, given, decide, NoneHolds, not16, unaligned, beyond, anyBeyond, apart, limit, none}
+use Rattle.mode.specs.Table.{Answer, refused, given, decide, NoneHolds, unaligned, beyond, anyBeyond, apart, limit, none}
 use Rattle.mode.specs.Calls.{unalignedRun, joined, joinedOnto, joinedAll, joinList, Kind, middle, last, blocksOfRun, outcomeBy, passFrom, runRecord, sealRun, sealRunRows, checkRun, checkRunRows}
 use Rattle.mode.proofs.Laws.{same-record}
 use Rattle.mode.proofs.Blocks.{length-padded, aligned}

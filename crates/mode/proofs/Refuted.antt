@@ -2,7 +2,7 @@
 -- which it does not hold.
 use mathlib.Core.Path.{_≡_, refl, sym, ap, _∙_}
 use mathlib.Core.Logic.{inl, inr, _↔_}
-use mathlib.Core.List.{List, [], _∷_, _++_}
+use mathlib.Core.List.{List, [], _∷_}
 use mathlib.Core.Bool.{Bool, cond}
 use Prim.Native.Nat.{ℕ, _+_, _*_, _-_}
 use native.Mathlib.Omega.{arith}
@@ -13,7 +13,7 @@ use Rattle.blocks.specs.Gf128.{jump}
 use Rattle.mode.specs.Mode.{plaintext, ciphertext, RunRecord, zeroBlock, blocksOf, encrypt, startMask, tagFrom, UnbrokenCheck}
 use Rattle.mode.specs.Table.{Answer, refused, given, decide, anyBeyond, apart, none}
 use Rattle.mode.specs.Calls.{Kind, middle, last, blocksOfRun, Outcome, outcomeBy, joined, joinedAll, blank, joinTwo, joinTwoRows, joinList, joinListRows, passFrom, runRecord, sealRun, checkRun, checkRunRows, close, closeRows, test, Calls}
-use Rattle.mode.specs.Parallel.{Run, Segment, recorded, Call, runAt, joinPair, joinMany, Allowed, recordBy, start, afterAll, EachCall}
+use Rattle.mode.specs.Parallel.{Segment, recorded, Call, runAt, joinPair, joinMany, Allowed, recordBy, start, afterAll}
 use Rattle.mode.specs.Demands.{Gives, Refuses, Expected, Whole, Agrees, Demand3}
 use Rattle.mode.proofs.Decisions.{outcome-answer}
 use Rattle.mode.proofs.Toy.{toy, computed, aKey, anIv, onePiece, onePiece-formed, zeroKey, zeroKey-formed, replaced, replaced-formed, oneText, oneChecked, oneChecked-formed, twoChecked, twoChecked-formed, threePieces, threePieces-formed}

@@ -1,5 +1,5 @@
 -- A lawful cipher that is easy to compute with, and settings over it: what the statements of the demands come to in small cases.
-use mathlib.Core.Path.{_≡_, refl, sym, _∙_}
+use mathlib.Core.Path.{refl, sym, _∙_}
 use mathlib.Core.List.{List, [], _∷_, _++_}
 use Prim.Native.Nat.{ℕ}
 use lib.ListN.{replicate}

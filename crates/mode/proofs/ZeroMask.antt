@@ -1,18 +1,17 @@
 -- A start mask that is still zero after its replacement (ticket P3): which pairs have one, that every call refuses them, that nothing else
 -- changes, and that nothing comes onto the rack.
-use mathlib.Core.Path.{_≡_, refl, sym, ap, ap₂, subst, _∙_}
+use mathlib.Core.Path.{_≡_, refl, sym, ap, subst, _∙_}
 use mathlib.Core.Logic.{_↔_}
 use mathlib.Core.List.{List, [], _∷_}
 use mathlib.Core.Bool.{Bool, true, false, cond}
 use Prim.Native.Nat.{ℕ, zero, suc, _<_}
-use native.Mathlib.Nat.{le-of-eq}
 use lib.ListN.{length}
 use lib.Dec.{leb}
 use Rattle.blocks.specs.Bytes.{xorBytes, Block, same}
 use Rattle.blocks.proofs.XorBytes.{xorBytes-zeros}
 use Rattle.mode.specs.Mode.{Cipher, Lawful, RunRecord, zeroBlock, encrypt, startMask}
 use Rattle.mode.specs.Table.{Answer, decide, anyBeyond, apart, none, zeroMask}
-use Rattle.mode.specs.Calls.{outcomeBy, sealRun, checkRun, joinList, close, test, seal, openRows, openSealed, callsOf}
+use Rattle.mode.specs.Calls.{sealRun, checkRun, joinList, close, test, seal, openRows, openSealed, callsOf}
 use Rattle.mode.specs.Parallel.{ivOf, Setting, WellFormed, Run, Segment, empties, isRecorded, segment, Call, runAt, joinPair, joinMany, AllRecorded, Allowed, mergeBy, recordBy, start, roomOf, runOutcome, answerOf, after, afterAll, EachCall}
 use Rattle.mode.specs.Demands.{Refuses, ciphertextOfSegment, ZeroMask, zeroMaskIv, without, AsBefore, RunRefused, ZeroMaskRack}
 use Rattle.mode.proofs.Rows.{not-too-long}
