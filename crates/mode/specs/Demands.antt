@@ -75,7 +75,7 @@ abbrev pub NonzeroMask : Cipher → List ℕ → List ℕ → Type 0
 NonzeroMask c key iv = zeroMask c key iv ≡ false
 
 -- ---- DEMAND 2 (a). Sealing gives the record of the published mode, 16 j + 32 bytes for j blocks, and zeros beyond it; a message within the
--- limit, with a key and an IV of 16 bytes and with room, is sealed.
+-- limit, with a key and an IV of 16 bytes, a start mask that is not zero and with room, is sealed.
 
 pub record Demand2a (c : Cipher) : Type 0 where
   pub gives : (key iv message r : List ℕ) (room : ℕ) → (seal c key iv message room) .answer ≡ given r
@@ -151,7 +151,8 @@ module _ (c : Cipher) where
     pub of-jump : (mask : List ℕ) (distance : ℤ) (room : ℕ)
         → DecidedInto (jumpRows mask distance room) (jumpMask mask distance room) (jumpBy distance mask) (jumpBy distance mask) room
 
--- ---- DEMAND 2 (d). The unbroken check passes a record exactly where opening, lent as much output as there is ciphertext, gives a message or 7.
+-- ---- DEMAND 2 (d). Where the start mask is not zero, the unbroken check passes a record exactly where opening, lent as much output as there is
+-- ciphertext, gives a message or 7.
 
 abbrev pub Demand2d : Cipher → Type 0
 Demand2d c =
@@ -226,8 +227,8 @@ module _ (c : Cipher) (m : Calls) where
     -- once the rack is a single filled place: the ciphertexts in order, the closing tag and the test are the unbroken ones
     pub single : (rs : List Run) (r : RunRecord) (bytes : List ℕ) → xs ≡ recorded rs r bytes ∷ [] → Whole s r bytes
 
-  -- DEMAND 3, of any six calls: for every key, message or sealed record, and cut (s), and every list of calls that is allowed, from the empty
-  -- rack.
+  -- DEMAND 3, of any six calls: for every key, message or sealed record, and cut (s) whose start mask is not zero, and every list of calls that
+  -- is allowed, from the empty rack.
   abbrev pub Demand3 : Type 0
   Demand3 =
       (s : Setting) → NonzeroMask c (s .key) (ivOf (s .work)) → WellFormed s → (calls : List Call) → EachCall m s Allowed (start s) calls → Agrees s calls (afterAll m s (start s) calls)
@@ -318,7 +319,7 @@ pub record SignedJump (c : Cipher) : Type 0 where
 
 -- ---- beside demand 3
 
--- what a run gets under a pair that demand 3 leaves out
+-- what a run gets under a pair that demand 3 leaves out (a join has no key)
 unfoldable pub RunRefused : Cipher → Setting → List Segment → Call → Type 0
 RunRefused c s xs (runAt i room) = Refuses (runOutcome (callsOf c) s xs i room) 10 (roomOf (s .work) room)
 RunRefused c s xs (joinPair i j) = Unit {0}

@@ -1,5 +1,5 @@
--- Why a list is refused: document 01's table, with ticket P3's row 10. A row is a number and whether its condition holds; the first row that holds, in the
--- table's order, is the answer.
+-- Why a list is refused: document 01's table, and ticket P3's row 10 in it. A row is a number and whether its condition holds; the first row
+-- that holds, in the table's order, is the answer.
 use mathlib.Core.Path.{_≡_}
 use mathlib.Core.List.{List, [], _∷_, _++_}
 use mathlib.Core.Bool.{Bool, true, false, cond, not, _||_}
