@@ -35,6 +35,9 @@
  *  - A repeated IV. Under one key and IV, equal blocks at the same place of two lists give equal
  *    ciphertext blocks (document 000). Never use an IV twice under one key. The library does not
  *    choose IVs and cannot see that one is used again.
+ *  - A key of zeros. It is no key: anyone who tries it opens every list under it. With one IV it is
+ *    refused (10, below), with all others it is taken like any key. Load a real key before the first
+ *    list.
  *  - Timing. The cipher's tables are indexed by secret bytes. Nothing is promised of time or caches.
  *  - The stack. Keys, masks and plaintext that were on it are not wiped.
  *  - Left out: the paper's hash finish, headers, and keys of 192 or 256 bits.
@@ -99,6 +102,9 @@
  *      blocks, either way
  *   8  two records in turn of which the left one does not end where the right one starts
  *   9  the record to be closed or tested does not start at block 0 or has no block; an empty list
+ *  10  the start mask is still zero after its replacement. It is the encryption of IV plus key, plus
+ *      key (plus being exclusive or), and where that is zero the key replaces it. So the key is all
+ *      zeros, and the IV the one with which each block would go out unmasked
  *   5  an output is shorter than its answer; in balzenoh_open, shorter than the ciphertext
  *   6  the tag differs
  *   7  the tag is right, but the last block is not padded as above
@@ -146,13 +152,14 @@ enum balzenoh_refusal {
     BALZENOH_NOT_PADDED = 7,
     BALZENOH_NOT_NEIGHBOURS = 8,
     BALZENOH_NOT_WHOLE = 9,
+    BALZENOH_ZERO_MASK = 10,
     BALZENOH_RECORD_LENGTH = 24
 };
 
 /*
  * Seals a message.
  *
- * Refusals: 1, 2, 3 (message above 63,999 bytes), 5 (out_len below BALZENOH_SEALED_LENGTH of
+ * Refusals: 1, 2, 3 (message above 63,999 bytes), 10, 5 (out_len below BALZENOH_SEALED_LENGTH of
  * message_len).
  * On success out has the sealed record: IV, ciphertext, tag; *length is its length.
  */
@@ -164,8 +171,8 @@ uint8_t balzenoh_seal(const uint8_t *key, size_t key_len,
 /*
  * Opens a sealed record.
  *
- * Refusals: 1, 3 (sealed_len below 48, above 64,032 or no multiple of 16), 5 (out_len below
- * sealed_len - 32, the length of the ciphertext), 6, 7.
+ * Refusals: 1, 3 (sealed_len below 48, above 64,032 or no multiple of 16), 10 (with the IV that the
+ * record starts with), 5 (out_len below sealed_len - 32, the length of the ciphertext), 6, 7.
  * On success out has the message without its padding; *length is the message's length, 1 to 16
  * bytes less than the ciphertext's.
  */
@@ -178,7 +185,8 @@ uint8_t balzenoh_open(const uint8_t *key, size_t key_len,
  * gets the padding and so has at least one block. A middle run may be empty.
  *
  * Refusals: 1, 2, 3 (middle run no multiple of 16 bytes), 4 (first plus the run's blocks above
- * 4,000), 5 (out_len below BALZENOH_RUN_LENGTH of bytes_len and last, or run_len below 24).
+ * 4,000), 10 (for an empty run too), 5 (out_len below BALZENOH_RUN_LENGTH of bytes_len and last, or
+ * run_len below 24).
  * On success out has the run's ciphertext, alone; *length is its length; run has the run record.
  */
 uint8_t balzenoh_seal_run(const uint8_t *key, size_t key_len,
@@ -194,7 +202,7 @@ uint8_t balzenoh_seal_run(const uint8_t *key, size_t key_len,
  * balzenoh_test.
  *
  * Refusals: 1, 2, 3 (bytes_len no multiple of 16), 4 (first plus the run's blocks above 4,000),
- * 5 (run_len below 24).
+ * 10 (for an empty run too), 5 (run_len below 24).
  * On success run has the run record.
  */
 uint8_t balzenoh_check_run(const uint8_t *key, size_t key_len,
@@ -227,8 +235,8 @@ uint8_t balzenoh_join_list(const uint8_t *records, size_t records_len,
 /*
  * Closes the record of a whole list into its tag.
  *
- * Refusals: 24, 1, 2, 4, 9 (the record does not start at block 0, or has no block), 5 (tag_len below
- * 16).
+ * Refusals: 24, 1, 2, 4, 9 (the record does not start at block 0, or has no block), 10, 5 (tag_len
+ * below 16).
  * On success tag has the 16 bytes of the tag, then zeros.
  */
 uint8_t balzenoh_close(const uint8_t *key, size_t key_len,
@@ -240,7 +248,7 @@ uint8_t balzenoh_close(const uint8_t *key, size_t key_len,
  * Tests a tag against the record of a whole list: 0 if closing the record gives that tag.
  *
  * Refusals: 24, 1, 2, 3 (tag_len not 16), 4, 9 (the record does not start at block 0, or has no
- * block), 6.
+ * block), 10, 6.
  * There is no output.
  */
 uint8_t balzenoh_test(const uint8_t *key, size_t key_len,
