@@ -13,7 +13,7 @@ use crate::refusal::Refusal;
 /// # Errors
 ///
 /// [`KeyLength`](Refusal::KeyLength), [`IvLength`](Refusal::IvLength), [`Length`](Refusal::Length) for a message above 63,999
-/// bytes, [`OutputTooShort`](Refusal::OutputTooShort).
+/// bytes, [`ZeroMask`](Refusal::ZeroMask), [`OutputTooShort`](Refusal::OutputTooShort).
 ///
 /// ```
 /// use balzenoh::{raw, Refusal};
@@ -32,7 +32,8 @@ pub fn seal(key: &[u8], iv: &[u8], message: &[u8], out: &mut [u8]) -> Result<usi
 /// # Errors
 ///
 /// [`KeyLength`](Refusal::KeyLength), [`Length`](Refusal::Length) for a record below 48 bytes, above 64,032 or no multiple of 16,
-/// [`OutputTooShort`](Refusal::OutputTooShort), [`TagDiffers`](Refusal::TagDiffers), [`Padding`](Refusal::Padding).
+/// [`ZeroMask`](Refusal::ZeroMask) with the record's IV, [`OutputTooShort`](Refusal::OutputTooShort),
+/// [`TagDiffers`](Refusal::TagDiffers), [`Padding`](Refusal::Padding).
 ///
 /// ```
 /// use balzenoh::{raw, Refusal};
@@ -52,8 +53,8 @@ pub fn open(key: &[u8], sealed: &[u8], out: &mut [u8]) -> Result<usize, Refusal>
 /// # Errors
 ///
 /// [`KeyLength`](Refusal::KeyLength), [`IvLength`](Refusal::IvLength), [`Length`](Refusal::Length) for a run that is not the last
-/// and no multiple of 16 bytes, [`BeyondLimit`](Refusal::BeyondLimit), [`OutputTooShort`](Refusal::OutputTooShort) for either
-/// output.
+/// and no multiple of 16 bytes, [`BeyondLimit`](Refusal::BeyondLimit), [`ZeroMask`](Refusal::ZeroMask) for an empty run too,
+/// [`OutputTooShort`](Refusal::OutputTooShort) for either output.
 ///
 /// ```
 /// use balzenoh::raw;
@@ -79,7 +80,8 @@ pub fn seal_run(
 /// # Errors
 ///
 /// [`KeyLength`](Refusal::KeyLength), [`IvLength`](Refusal::IvLength), [`Length`](Refusal::Length) for a run that is no multiple
-/// of 16 bytes, [`BeyondLimit`](Refusal::BeyondLimit), [`OutputTooShort`](Refusal::OutputTooShort).
+/// of 16 bytes, [`BeyondLimit`](Refusal::BeyondLimit), [`ZeroMask`](Refusal::ZeroMask) for an empty run too,
+/// [`OutputTooShort`](Refusal::OutputTooShort).
 ///
 /// ```
 /// use balzenoh::{raw, Refusal};
@@ -142,7 +144,8 @@ pub fn join_list(records: &[u8], run: &mut [u8]) -> Result<(), Refusal> {
 /// # Errors
 ///
 /// [`RecordLength`](Refusal::RecordLength), [`KeyLength`](Refusal::KeyLength), [`IvLength`](Refusal::IvLength),
-/// [`BeyondLimit`](Refusal::BeyondLimit), [`NotWhole`](Refusal::NotWhole), [`OutputTooShort`](Refusal::OutputTooShort).
+/// [`BeyondLimit`](Refusal::BeyondLimit), [`NotWhole`](Refusal::NotWhole), [`ZeroMask`](Refusal::ZeroMask),
+/// [`OutputTooShort`](Refusal::OutputTooShort).
 ///
 /// ```
 /// use balzenoh::{raw, Refusal};
@@ -164,7 +167,7 @@ pub fn close(key: &[u8], iv: &[u8], run: &[u8], tag: &mut [u8]) -> Result<(), Re
 ///
 /// [`RecordLength`](Refusal::RecordLength), [`KeyLength`](Refusal::KeyLength), [`IvLength`](Refusal::IvLength),
 /// [`Length`](Refusal::Length) for a tag that is not 16 bytes, [`BeyondLimit`](Refusal::BeyondLimit),
-/// [`NotWhole`](Refusal::NotWhole), [`TagDiffers`](Refusal::TagDiffers).
+/// [`NotWhole`](Refusal::NotWhole), [`ZeroMask`](Refusal::ZeroMask), [`TagDiffers`](Refusal::TagDiffers).
 ///
 /// ```
 /// use balzenoh::{raw, Refusal};

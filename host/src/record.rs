@@ -166,7 +166,7 @@ pub fn join_list(records: &[RunRecord]) -> Result<RunRecord, Refusal> {
 /// # Errors
 ///
 /// [`Refusal::BeyondLimit`] where the record reaches beyond the limit of 4,000 blocks, [`Refusal::NotWhole`] where it does not
-/// start at block 0 or has no block.
+/// start at block 0 or has no block, [`Refusal::ZeroMask`] where key and IV are the pair that [`seal`](crate::seal) refuses.
 ///
 /// ```
 /// use balzenoh::{close, seal, seal_run, Iv, Key, Kind, Refusal};

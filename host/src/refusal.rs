@@ -31,6 +31,9 @@ pub enum Refusal {
     NotNeighbours,
     /// 9: the record is not one of a whole message, or the list of records is empty.
     NotWhole,
+    /// 10: the start mask is still zero after its replacement: the key is all zeros, and the IV the one with which each block
+    /// would go out unmasked.
+    ZeroMask,
     /// 24: a run record is not 24 bytes.
     RecordLength,
     /// A number that the library does not have. It is never expected.
@@ -49,7 +52,7 @@ pub enum Refusal {
 pub struct UnknownNumber(u8);
 
 /// Number, refusal, and the sentence for a technician at the machine: what was wrong and what to look at.
-const TABLE: [(u8, Refusal, &str); 10] = [
+const TABLE: [(u8, Refusal, &str); 11] = [
     (
         1,
         Refusal::KeyLength,
@@ -106,6 +109,12 @@ const TABLE: [(u8, Refusal, &str); 10] = [
          in and joined, from block 0 on.",
     ),
     (
+        10,
+        Refusal::ZeroMask,
+        "The key is all zeros, and with this IV nothing would hide the list. A key of zeros is no key. Load a real key, 16 bytes \
+         from a random source, into every machine that seals or opens this list.",
+    ),
+    (
         24,
         Refusal::RecordLength,
         "A run record is not 24 bytes long. Look at the record: it must be 48 hexadecimal digits, or a file of 24 bytes, with \
@@ -124,7 +133,7 @@ impl Refusal {
     /// use balzenoh::Refusal;
     ///
     /// assert_eq!(Refusal::from_number(6), Refusal::TagDiffers);
-    /// assert!(matches!(Refusal::from_number(10), Refusal::Unknown(_)));
+    /// assert!(matches!(Refusal::from_number(11), Refusal::Unknown(_)));
     /// ```
     pub fn from_number(number: u8) -> Self {
         let row = TABLE.iter().find(|(known, ..)| *known == number);
@@ -137,7 +146,7 @@ impl Refusal {
     /// use balzenoh::Refusal;
     ///
     /// assert_eq!(Refusal::TagDiffers.number(), 6);
-    /// assert_eq!(Refusal::from_number(10).number(), 10);
+    /// assert_eq!(Refusal::from_number(11).number(), 11);
     /// ```
     pub fn number(self) -> u8 {
         self.row().0
@@ -178,7 +187,7 @@ mod tests {
         for number in 0..=255 {
             let refusal = Refusal::from_number(number);
             assert_eq!(refusal.number(), number);
-            let known = matches!(number, 1..=9 | 24);
+            let known = matches!(number, 1..=10 | 24);
             assert_eq!(matches!(refusal, Refusal::Unknown(_)), !known);
             assert_eq!(refusal.sentence() == UNKNOWN, !known);
         }

@@ -23,7 +23,7 @@ use crate::values::{Iv, Key, Tag};
 ///
 /// # Errors
 ///
-/// [`Refusal::Length`] for a message above 63,999 bytes.
+/// Those of [`seal`](crate::seal).
 ///
 /// ```
 /// use balzenoh::{seal, seal_in_runs, Iv, Key};
@@ -53,8 +53,7 @@ pub fn seal_in_runs(key: &Key, iv: &Iv, message: &[u8], runs: usize, threads: us
 ///
 /// # Errors
 ///
-/// [`Refusal::Length`] for a record that is below 48 bytes, above 64,032 or no multiple of 16, [`Refusal::TagDiffers`] where it is
-/// not as it was sealed or the key is another one.
+/// Those of [`open`](crate::open) but [`Refusal::Padding`].
 ///
 /// ```
 /// use balzenoh::{check_in_runs, seal, Iv, Key, Refusal};

@@ -81,6 +81,9 @@ sixteen_bytes! {
     /// A key that is moved may leave its bytes where it was: keep it in one place, and lend it. What it was made from is the
     /// caller's, and nothing wipes that.
     ///
+    /// Sixteen zero bytes are no key, though they are taken as one: with one IV they are refused ([`Refusal::ZeroMask`]), with all
+    /// others they are not.
+    ///
     /// ```
     /// use balzenoh::{Key, Refusal};
     ///

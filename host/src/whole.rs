@@ -9,7 +9,8 @@ use crate::values::{Iv, Key};
 ///
 /// # Errors
 ///
-/// [`Refusal::Length`] for a longer message.
+/// [`Refusal::Length`] for a longer message, [`Refusal::ZeroMask`] for the key of zeros with the one IV under which nothing would
+/// be masked.
 ///
 /// ```
 /// use balzenoh::{seal, Iv, Key, Refusal};
@@ -17,6 +18,8 @@ use crate::values::{Iv, Key};
 /// let (key, iv) = (Key::from([7; 16]), Iv::from([1; 16]));
 /// assert_eq!(seal(&key, &iv, b"parcel 4711 -> cage 12")?.len(), 16 + 32 + 16);
 /// assert_eq!(seal(&key, &iv, &[0; 64_000]), Err(Refusal::Length));
+/// let (no_key, its_iv) = (Key::from([0; 16]), "140F0F1011B5223D79587717FFD9EC3A".parse()?);
+/// assert_eq!(seal(&no_key, &its_iv, b"parcel 4711 -> cage 12"), Err(Refusal::ZeroMask));
 /// # Ok::<(), Refusal>(())
 /// ```
 pub fn seal(key: &Key, iv: &Iv, message: &[u8]) -> Result<Vec<u8>, Refusal> {
@@ -30,8 +33,7 @@ pub fn seal(key: &Key, iv: &Iv, message: &[u8]) -> Result<Vec<u8>, Refusal> {
 ///
 /// # Errors
 ///
-/// [`Refusal::Length`] for a message above 63,999 bytes, [`Refusal::OutputTooShort`] for an output below
-/// [`sealed_room`](crate::sizes::sealed_room) of it.
+/// Those of [`seal`], and [`Refusal::OutputTooShort`] for an output below [`sealed_room`](crate::sizes::sealed_room) of the message.
 ///
 /// ```
 /// use balzenoh::{seal_into, Iv, Key, Refusal};
@@ -51,8 +53,9 @@ pub fn seal_into(key: &Key, iv: &Iv, message: &[u8], out: &mut [u8]) -> Result<u
 ///
 /// # Errors
 ///
-/// [`Refusal::Length`] for a record that is below 48 bytes, above 64,032 or no multiple of 16, [`Refusal::TagDiffers`] where it is
-/// not as it was sealed or the key is another one, [`Refusal::Padding`] where the message does not end as messages do.
+/// [`Refusal::Length`] for a record that is below 48 bytes, above 64,032 or no multiple of 16, [`Refusal::ZeroMask`] where key and
+/// IV are the pair that [`seal`] refuses, [`Refusal::TagDiffers`] where it is not as it was sealed or the key is another one,
+/// [`Refusal::Padding`] where the message does not end as messages do.
 ///
 /// ```
 /// use balzenoh::{open, seal, Iv, Key, Refusal};

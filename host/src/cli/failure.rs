@@ -25,7 +25,7 @@ pub enum Failure {
 }
 
 /// What the exit statuses mean.
-pub const STATUSES: [(u8, &str); 15] = [
+pub const STATUSES: [(u8, &str); 16] = [
     (0, "done"),
     (1, "the key is not 16 bytes"),
     (2, "the IV is not 16 bytes"),
@@ -36,6 +36,7 @@ pub const STATUSES: [(u8, &str); 15] = [
     (7, "the list does not end as lists do"),
     (8, "the records do not follow each other"),
     (9, "not the record of a whole list, or no record at all"),
+    (10, "the key is all zeros, and with this IV nothing would hide the list: load a real key"),
     (24, "a run record is not 24 bytes"),
     (USAGE, "the command line is wrong; nothing was touched"),
     (FAULT, "the demonstration went wrong, or the program or the library has a fault"),

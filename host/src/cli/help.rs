@@ -15,7 +15,8 @@ pub const SECTIONS: [(&str, &str); 3] = [
         "A key, IV, tag, mask or record is given as hexadecimal digits, or as @FILE; @- is standard input. The file holds the \
          bytes themselves, or their digits and a line end. A file of exactly the right size (16 bytes; a record 24) is always \
          taken as the bytes themselves. A value of any other length is refused by its number, and so is one that is not made \
-         of digits. Keys on the command line are seen by others on the machine: use a file.",
+         of digits. Keys on the command line are seen by others on the machine: use a file. Sixteen zero bytes are no key: load \
+         a real one before the first list.",
     ),
     (
         "INPUT AND OUTPUT",
