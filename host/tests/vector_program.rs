@@ -6,9 +6,9 @@ use std::process::{Command, Stdio};
 use std::sync::OnceLock;
 
 use balzenoh::hex;
-use support::cipher::Cipher;
 use support::fips197::Fips197;
 use support::mode::Mode;
+use support::pairs;
 use support::random::Random;
 
 /// What the other tests use of these is not used here.
@@ -17,6 +17,7 @@ mod support {
     pub mod cipher;
     pub mod fips197;
     pub mod mode;
+    pub mod pairs;
     pub mod random;
 }
 
@@ -94,10 +95,21 @@ fn other_inputs_give_the_lines_of_the_reference() {
 fn a_start_mask_of_zero_gives_way_to_the_key() {
     let Some(program) = program() else { return skipped() };
     let mut random = Random::new(23);
-    let (key, block) = (random.block(), random.block());
-    let number = u128::from_be_bytes(key);
-    let iv = (Fips197::new(&key).decrypt(number) ^ number).to_be_bytes();
+    let ((key, iv), block) = (pairs::replaced(random.block()), random.block());
     let lines = reference_lines(&key, &iv, &block);
-    assert!(lines.starts_with(&format!("R1 {number:032X}\n")));
+    assert!(lines.starts_with(&format!("R1 {}\n", hex::encode(&key))));
     prints(program, &[key, iv, block].concat(), &lines);
+}
+
+/// The calls refuse the key of zeros with that IV, and take it with any other.
+#[test]
+fn a_mask_of_nothing_prints_nothing() {
+    let Some(program) = program() else { return skipped() };
+    let mut random = Random::new(24);
+    let (key, iv) = pairs::of_nothing();
+    prints(program, &[key, iv, random.block()].concat(), "");
+    for (key, iv) in [(key, random.block()), pairs::one_bit_from_the_iv(0), pairs::one_bit_from_the_key(0)] {
+        let block = random.block();
+        prints(program, &[key, iv, block].concat(), &reference_lines(&key, &iv, &block));
+    }
 }

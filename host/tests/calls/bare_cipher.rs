@@ -1,14 +1,10 @@
 //! The bare cipher of the library against the `openssl` program and against both other ciphers.
 
-use std::io::Write;
-use std::process::{Command, Stdio};
-
-use balzenoh::hex;
-
 use crate::support::aesni::{self, AesNi};
 use crate::support::cipher::Cipher;
 use crate::support::fips197::Fips197;
 use crate::support::mode::number;
+use crate::support::openssl::{openssl, Way};
 use crate::support::random::Random;
 
 #[rustfmt::skip]
@@ -19,12 +15,6 @@ extern "C" {
     fn aes_blocks_decrypt(
         key: *const u8, key_len: usize, blocks: *const u8, blocks_len: usize, out: *mut u8, out_len: usize,
     ) -> u8;
-}
-
-#[derive(Clone, Copy, PartialEq)]
-enum Way {
-    Encrypt,
-    Decrypt,
 }
 
 const WAYS: [Way; 2] = [Way::Encrypt, Way::Decrypt];
@@ -42,21 +32,6 @@ fn other<C: Cipher>(way: Way, key: &[u8; 16], blocks: &[u8]) -> Vec<u8> {
         Way::Decrypt => cipher.decrypt(number(block)),
     };
     blocks.chunks(16).flat_map(|block| one(block).to_be_bytes()).collect()
-}
-
-/// The program's answer, or nothing where there is no such program. The blocks fit into a pipe.
-fn openssl(way: Way, key: &[u8; 16], blocks: &[u8]) -> Option<Vec<u8>> {
-    let direction = if way == Way::Encrypt { "-e" } else { "-d" };
-    let mut child = Command::new("openssl")
-        .args(["enc", "-aes-128-ecb", "-nopad", direction, "-K", &hex::encode(key)])
-        .stdin(Stdio::piped())
-        .stdout(Stdio::piped())
-        .spawn()
-        .ok()?;
-    child.stdin.take().expect("a pipe").write_all(blocks).expect("openssl reads its input");
-    let output = child.wait_with_output().expect("openssl ends");
-    assert!(output.status.success(), "openssl failed");
-    Some(output.stdout)
 }
 
 #[test]

@@ -12,6 +12,7 @@ use abi::{balzenoh_check_run, balzenoh_join_list, balzenoh_open, balzenoh_seal, 
 use crate::support::call::Call;
 use crate::support::fips197::Fips197;
 use crate::support::mode::{padded, Mode};
+use crate::support::pairs;
 use crate::support::random::Random;
 use crate::support::reference;
 
@@ -54,9 +55,9 @@ fn the_length_is_0_after_a_refusal() {
     let mut random = Random::new(31);
     for _ in 0..5_000 {
         let key_length = random.mostly(16, 20);
-        let (key, iv, length) = (random.bytes(key_length), random.block(), random.below(70));
+        let ((key, iv), length) = (pairs::of_lengths(&mut random, [key_length, 16]), random.below(70));
         let (bytes, room, record_room) = (random.bytes(length), random.below(140), random.within(20, 28));
-        let sealed = Mode::<Fips197>::new(&random.block(), &iv).seal_blocks(&iv, &padded(&bytes));
+        let sealed = Mode::<Fips197>::new(&random.block(), &random.block()).seal_blocks(&iv, &padded(&bytes));
         check(&Call::Seal { key: &key, iv: &iv, message: &bytes, room }, 0, &mut random);
         check(&Call::Open { key: &key, sealed: &sealed, room }, 0, &mut random);
         let (first, last) = (random.edge(), random.next() as u8);
@@ -98,13 +99,15 @@ fn a_distance_is_the_lower_half_of_its_register() {
     }
 }
 
-/// An empty message and empty runs, with null pointers wherever a length is 0.
+/// An empty message and empty runs, with null pointers wherever a length is 0. The last two have a mask of nothing.
 #[test]
 #[rustfmt::skip]
 fn a_null_pointer_of_length_0_is_answered() {
     let (key, iv, no) = ([7; 16], [9; 16], null::<u8>());
+    let (no_key, its_iv) = pairs::of_nothing();
     let (mut out, mut run, mut length) = ([0xA5; 48], [0xA5; 24], NOISE);
     let (key, iv, out, run) = (key.as_ptr(), iv.as_ptr(), out.as_mut_ptr(), run.as_mut_ptr());
+    let (no_key, its_iv) = (no_key.as_ptr(), its_iv.as_ptr());
     // SAFETY: pointers valid for their lengths, or null where the length is 0; the outputs are distinct.
     let numbers = unsafe {
         [
@@ -116,7 +119,9 @@ fn a_null_pointer_of_length_0_is_answered() {
             balzenoh_seal_run(key, 16, iv, 16, 5, 0, no, 0, null_mut(), 0, &mut length, null_mut(), 0),
             balzenoh_check_run(key, 16, iv, 16, 5, no, 0, run, 24),
             balzenoh_join_list(no, 0, run, 24),
+            balzenoh_seal_run(no_key, 16, its_iv, 16, 5, 0, no, 0, null_mut(), 0, &mut length, null_mut(), 0),
+            balzenoh_check_run(no_key, 16, its_iv, 16, 5, no, 0, null_mut(), 0),
         ]
     };
-    assert_eq!(numbers, [1, 5, 0, 3, 0, 5, 0, 9]);
+    assert_eq!(numbers, [1, 5, 0, 3, 0, 5, 0, 9, 10, 10]);
 }

@@ -4,6 +4,7 @@ use crate::support::bench::Bench;
 use crate::support::call::Call;
 use crate::support::fips197::Fips197;
 use crate::support::mode::Mode;
+use crate::support::pairs;
 use crate::support::plan;
 
 #[test]
@@ -11,7 +12,7 @@ fn records_of_any_numbers() {
     let mut bench = Bench::new(plan::CLOSINGS);
     let mut passed = 0;
     for _ in 0..plan::CLOSINGS.calls / 2 {
-        let (key, iv) = (bench.random.block(), bench.random.block());
+        let (key, iv) = pairs::any(&mut bench.random);
         let first = if bench.random.once_in(4) { bench.random.edge() } else { 0 };
         let (count, preauthenticator) = (bench.random.edge(), bench.random.block());
         let record = [&first.to_be_bytes()[..], &count.to_be_bytes(), &preauthenticator].concat();
@@ -52,7 +53,7 @@ fn every_length(bench: &mut Bench) {
 
 fn with_lengths(bench: &mut Bench, [key_length, iv_length, record_length, tag_length]: [usize; 4]) {
     for numbers in [[0, 1], [0, 4_000], [0, 4_001], [1, 3], [0, 0]] {
-        let (key, iv) = (bench.random.bytes(key_length), bench.random.bytes(iv_length));
+        let (key, iv) = pairs::of_lengths(&mut bench.random, [key_length, iv_length]);
         let mut record: Vec<u8> = numbers.iter().flat_map(|number: &u32| number.to_be_bytes()).collect();
         record.extend(bench.random.bytes(40));
         record.truncate(record_length);

@@ -5,6 +5,7 @@ use crate::support::bench::Bench;
 use crate::support::call::Call;
 use crate::support::fips197::Fips197;
 use crate::support::mode::{padded, Mode};
+use crate::support::pairs;
 use crate::support::plan;
 use crate::support::random::Random;
 use crate::support::segments::{Segments, Text};
@@ -13,7 +14,7 @@ use crate::support::segments::{Segments, Text};
 fn over_messages() {
     let mut bench = Bench::new(plan::CUTS_SEALED);
     for _ in 0..plan::CUTS {
-        let (key, iv) = (bench.random.block(), bench.random.block());
+        let (key, iv) = pairs::sealing(&mut bench.random);
         let length = random_length(&mut bench.random);
         let text = Text::Message(bench.random.bytes(length));
         let mut segments = Segments::new(key, iv, text, &mut bench.random);
@@ -132,7 +133,7 @@ fn random_length(random: &mut Random) -> usize {
 
 /// Genuine, with any ciphertext and the right tag, damaged, or any bytes.
 fn random_sealed(random: &mut Random) -> ([u8; 16], Vec<u8>) {
-    let (key, iv) = (random.block(), random.block());
+    let (key, iv) = pairs::sealing(random);
     let length = random_length(random);
     let blocks = padded(&random.bytes(length));
     let mode = Mode::<Fips197>::new(&key, &iv);
@@ -142,7 +143,9 @@ fn random_sealed(random: &mut Random) -> ([u8; 16], Vec<u8>) {
         _ => mode.seal_blocks(&iv, &blocks),
     };
     if random.once_in(4) {
-        let at = random.below(sealed.len());
+        // The key of zeros keeps its IV: one bit more could make it the pair that is refused.
+        let from = if key == pairs::NO_KEY { 16 } else { 0 };
+        let at = random.within(from, sealed.len() - 1);
         sealed[at] ^= 1 << random.below(8);
     }
     (key, sealed)

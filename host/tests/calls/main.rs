@@ -26,3 +26,4 @@ mod start_mask;
 mod typed;
 mod vectors;
 mod zero_mask;
+mod zero_mask_rows;

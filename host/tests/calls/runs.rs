@@ -2,6 +2,7 @@
 
 use crate::support::bench::{rooms_around, Bench};
 use crate::support::call::Call;
+use crate::support::pairs;
 use crate::support::plan;
 use crate::support::random::Random;
 
@@ -9,7 +10,7 @@ use crate::support::random::Random;
 fn sealing_every_length_with_every_room() {
     let mut bench = Bench::new(plan::RUNS_SEALED);
     for (length, last) in (0..=600).flat_map(|length| [(length, false), (length, true)]) {
-        let (key, iv, bytes) = (bench.random.block(), bench.random.block(), bench.random.bytes(length));
+        let ((key, iv), bytes) = (pairs::any(&mut bench.random), bench.random.bytes(length));
         let first = first_block(&mut bench.random, length);
         let needed = (length / 16 + usize::from(last)) * 16;
         for room in rooms_around(needed) {
@@ -26,7 +27,7 @@ fn checking_every_length_with_every_room() {
     for length in 0..=600 {
         // Only whole blocks get beyond row 3: most lengths are made of them.
         let length = if length % 4 == 0 { length } else { length / 16 * 16 };
-        let (key, iv, bytes) = (bench.random.block(), bench.random.block(), bench.random.bytes(length));
+        let ((key, iv), bytes) = (pairs::any(&mut bench.random), bench.random.bytes(length));
         let first = first_block(&mut bench.random, length);
         for record_room in rooms_around(24) {
             bench.check(&Call::CheckRun { key: &key, iv: &iv, first, bytes: &bytes, record_room });
@@ -55,9 +56,9 @@ fn first_block_and_count_around_the_limit() {
 }
 
 /// The three calls on one run, with rooms that mostly suffice.
-fn check_all(bench: &mut Bench, [key_length, iv_length]: [usize; 2], first: u32, length: usize) {
+fn check_all(bench: &mut Bench, lengths: [usize; 2], first: u32, length: usize) {
     let random = &mut bench.random;
-    let (key, iv, bytes) = (&random.bytes(key_length), &random.bytes(iv_length), &random.bytes(length));
+    let ((key, iv), bytes) = (&pairs::of_lengths(random, lengths), &random.bytes(length));
     let record_room = random.mostly(24, 45);
     let room = random.mostly(length + 16, length + 40);
     for last in [false, true] {

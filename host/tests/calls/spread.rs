@@ -5,6 +5,7 @@ use std::process::Command;
 
 use balzenoh::{check_in_runs, open, seal, seal_in_runs, Iv, Key, Refusal};
 
+use crate::support::pairs;
 use crate::support::random::Random;
 
 const LENGTHS: [usize; 14] = [0, 1, 15, 16, 17, 31, 32, 100, 255, 256, 1_000, 63_983, 63_984, 63_999];
@@ -49,7 +50,23 @@ fn checked_in_runs_as_opened_whole() {
     }
 }
 
-/// Both tests above, in a process that can start no thread: no stack of this size fits into memory.
+/// Every run is refused, and so is the list; a length that no list has comes before that.
+#[test]
+fn a_mask_of_nothing_is_refused_in_runs_too() {
+    let (key, iv) = pairs::of_nothing();
+    let (key, iv) = (Key::from(key), Iv::from(iv));
+    for (runs, threads) in RUNS.iter().flat_map(|&runs| THREADS.map(|threads| (runs, threads))) {
+        for blocks in [1, 2, 9, 4_000] {
+            let sealed = [iv.as_ref(), &vec![7; 16 * (blocks + 1)]].concat();
+            assert_eq!(seal_in_runs(&key, &iv, &sealed[..16 * blocks - 1], runs, threads), Err(Refusal::ZeroMask));
+            assert_eq!(check_in_runs(&key, &sealed, runs, threads), Err(Refusal::ZeroMask));
+        }
+        assert_eq!(seal_in_runs(&key, &iv, &[0; 64_000], runs, threads), Err(Refusal::Length));
+        assert_eq!(check_in_runs(&key, iv.as_ref(), runs, threads), Err(Refusal::Length));
+    }
+}
+
+/// The tests above, in a process that can start no thread: no stack of this size fits into memory.
 #[test]
 fn where_no_thread_can_be_started_the_caller_does_it_all() {
     let output = Command::new(env::current_exe().expect("this program"))
@@ -58,10 +75,11 @@ fn where_no_thread_can_be_started_the_caller_does_it_all() {
             "--test-threads=1",
             "spread::sealed_in_runs_as_sealed_whole",
             "spread::checked_in_runs_as_opened_whole",
+            "spread::a_mask_of_nothing_is_refused_in_runs_too",
         ])
         .env("RUST_MIN_STACK", (1_u64 << 47).to_string())
         .output()
         .expect("this program starts");
     let told = String::from_utf8_lossy(&output.stdout);
-    assert!(output.status.success() && told.contains("2 passed"), "{told}");
+    assert!(output.status.success() && told.contains("3 passed"), "{told}");
 }

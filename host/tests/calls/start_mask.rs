@@ -7,6 +7,7 @@ use balzenoh::{check_run, close, jump, seal_run, Iv, Key, Kind, RunRecord};
 use crate::support::cipher::Cipher;
 use crate::support::fips197::Fips197;
 use crate::support::mode::{number, Mode};
+use crate::support::pairs;
 use crate::support::random::Random;
 
 /// A mask, jumped back by so many blocks, is the start mask.
@@ -23,7 +24,7 @@ fn middletext(record: &RunRecord) -> u128 {
 fn a_runs_first_mask_jumped_back_by_its_first_block() {
     let mut random = Random::new(53);
     for first in 0..4_000 {
-        let (key, iv, block) = (random.block(), random.block(), random.block());
+        let ((key, iv), block) = (pairs::sealing(&mut random), random.block());
         let Mode { cipher, start_mask } = Mode::<Fips197>::new(&key, &iv);
         let (ciphertext, record) =
             seal_run(&Key::from(key), &Iv::from(iv), first, Kind::Middle, &block).expect("one block within the limit");
@@ -37,7 +38,7 @@ fn a_runs_first_mask_jumped_back_by_its_first_block() {
 fn the_mask_of_closing_jumped_back_by_the_count() {
     let mut random = Random::new(54);
     for count in 1..=4_000 {
-        let (key, iv, preauthenticator) = (random.block(), random.block(), random.block());
+        let ((key, iv), preauthenticator) = (pairs::sealing(&mut random), random.block());
         let Mode { cipher, start_mask } = Mode::<Fips197>::new(&key, &iv);
         let record = RunRecord { first: 0, count, preauthenticator };
         let tag = close(&Key::from(key), &Iv::from(iv), &record).expect("the record of a whole list");

@@ -2,9 +2,10 @@
 
 use std::collections::HashSet;
 
-use balzenoh::{check_run, close, hex, join_list, jump, open, open_into, raw, seal, seal_into, seal_run, test};
+use balzenoh::{check_run, close, hex, join_list, jump, open, open_into, raw, seal, seal_into, seal_run, seal_run_into, test};
 use balzenoh::{Iv, Key, Kind, Refusal, RunRecord, Tag};
 
+use crate::support::pairs;
 use crate::support::random::Random;
 
 fn key_and_iv(random: &mut Random) -> (Key, Iv) {
@@ -46,6 +47,26 @@ fn lengths_out_of_range_are_refused() {
     }
     assert_eq!(join_list(&[]), Err(Refusal::NotWhole));
     assert_eq!(RunRecord::from_bytes(&[0; 23]), Err(Refusal::RecordLength));
+}
+
+#[test]
+fn a_mask_of_nothing_is_refused() {
+    let (key, iv) = pairs::of_nothing();
+    let sealed = [iv; 3].concat();
+    let (key, iv, tag) = (Key::from(key), Iv::from(iv), Tag::from(iv));
+    let record = RunRecord { first: 0, count: 1, preauthenticator: [9; 16] };
+    let refused = Refusal::ZeroMask;
+    assert_eq!(seal(&key, &iv, b""), Err(refused));
+    assert_eq!(seal_into(&key, &iv, b"", &mut []), Err(refused));
+    assert_eq!(open(&key, &sealed), Err(refused));
+    assert_eq!(open_into(&key, &sealed, &mut []), Err(refused));
+    for kind in [Kind::Middle, Kind::Last] {
+        assert_eq!(seal_run(&key, &iv, 7, kind, b""), Err(refused));
+        assert_eq!(seal_run_into(&key, &iv, 7, kind, b"", &mut []), Err(refused));
+    }
+    assert_eq!(check_run(&key, &iv, 4_000, b""), Err(refused));
+    assert_eq!(close(&key, &iv, &record), Err(refused));
+    assert_eq!(test(&key, &iv, &record, &tag), Err(refused));
 }
 
 #[test]

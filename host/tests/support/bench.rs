@@ -37,6 +37,13 @@ impl Bench {
         given
     }
 
+    /// Makes the call, and holds that it is refused with this number and that nothing is handed out.
+    pub fn refuses(&mut self, number: u8, call: &Call) {
+        let Answer { number: given, length, out, record } = self.check(call);
+        let nothing = length == 0 && out.iter().chain(&record).all(|&byte| byte == 0);
+        assert!(given == number && nothing, "{given}, and not {number}: {}", self.about(call));
+    }
+
     /// Prints the counts, and sees that the planned number of calls was made.
     pub fn finish(self) {
         println!("{}: {}", self.topic.name, self.tally);

@@ -53,6 +53,39 @@ impl<'a> Call<'a> {
         }
     }
 
+    /// The key of a call that has one.
+    pub fn key_mut(&mut self) -> Option<&mut &'a [u8]> {
+        match self {
+            Call::Seal { key, .. } | Call::Open { key, .. } | Call::SealRun { key, .. } => Some(key),
+            Call::CheckRun { key, .. } | Call::Close { key, .. } | Call::Test { key, .. } => Some(key),
+            _ => None,
+        }
+    }
+
+    /// The IV of a call that is handed one.
+    pub fn iv_mut(&mut self) -> Option<&mut &'a [u8]> {
+        match self {
+            Call::Seal { iv, .. } | Call::SealRun { iv, .. } | Call::CheckRun { iv, .. } => Some(iv),
+            Call::Close { iv, .. } | Call::Test { iv, .. } => Some(iv),
+            _ => None,
+        }
+    }
+
+    /// The call with outputs of these lengths lent, where it has such.
+    pub fn lent(mut self, bytes: usize, record: usize) -> Self {
+        match &mut self {
+            Call::Seal { room, .. } | Call::Open { room, .. } | Call::Close { room, .. } | Call::Jump { room, .. } => {
+                *room = bytes
+            }
+            Call::SealRun { room, record_room, .. } => (*room, *record_room) = (bytes, record),
+            Call::CheckRun { record_room, .. } | Call::Join { record_room, .. } | Call::JoinList { record_room, .. } => {
+                *record_room = record
+            }
+            Call::Test { .. } => {}
+        }
+        self
+    }
+
     /// All that is only read, one after the other.
     pub fn inputs(&self) -> Vec<u8> {
         match *self {

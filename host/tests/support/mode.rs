@@ -95,6 +95,13 @@ impl<C: Cipher> Mode<C> {
     }
 }
 
+/// The one IV under which step 1 comes to zero, so that the key replaces the start mask: IV plus key encrypts to the key. The
+/// cipher run backwards finds it.
+pub fn iv_of_zero_mask<C: Cipher>(key: &[u8; 16]) -> [u8; 16] {
+    let number = u128::from_be_bytes(*key);
+    (C::new(key).decrypt(number) ^ number).to_be_bytes()
+}
+
 /// 16 bytes as a number.
 pub fn number(block: &[u8]) -> u128 {
     u128::from_be_bytes(block.try_into().expect("a block of 16 bytes"))

@@ -25,16 +25,20 @@ pub const JUMPS: Topic = topic("jumping masks", 11, 210_000);
 pub const CUTS_SEALED: Topic = topic("cuts over messages", 12, 300_000);
 pub const CUTS_CHECKED: Topic = topic("cuts over sealed records", 13, 300_000);
 pub const DAMAGE: Topic = topic("damaged records", 14, 20_000);
-pub const ZERO_MASK: Topic = topic("start mask zero", 15, 6_000);
+pub const REPLACED_MASKS: Topic = topic("start masks replaced by the key", 15, 12_000);
 pub const EQUAL_COUNTS: Topic = topic("joining runs of equal counts", 16, 190_000);
 pub const CHANGING_COUNTS: Topic = topic("joining runs of changing counts", 17, 180_000);
 pub const EVERY_COUNT: Topic = topic("joining by every count", 18, 70_000);
 pub const REFUSED_LISTS: Topic = topic("lists refused within", 19, 20_000);
+pub const NO_MASK: Topic = topic("mask of nothing, every call", 20, 16_000);
+pub const NO_MASK_ROWS: Topic = topic("mask of nothing, rows above and below", 21, 77_000);
+pub const NO_MASK_EMPTY: Topic = topic("mask of nothing, empty runs", 22, 24_000);
+pub const NEAR_NO_MASK: Topic = topic("next to a mask of nothing", 23, 7_000);
 
 /// How many cuts each of their two topics has.
 pub const CUTS: usize = 12_000;
 
-const ALL: [Topic; 19] = [
+const ALL: [Topic; 23] = [
     SEALING,
     SEALING_EDGES,
     OPENING,
@@ -49,11 +53,15 @@ const ALL: [Topic; 19] = [
     CUTS_SEALED,
     CUTS_CHECKED,
     DAMAGE,
-    ZERO_MASK,
+    REPLACED_MASKS,
     EQUAL_COUNTS,
     CHANGING_COUNTS,
     EVERY_COUNT,
     REFUSED_LISTS,
+    NO_MASK,
+    NO_MASK_ROWS,
+    NO_MASK_EMPTY,
+    NEAR_NO_MASK,
 ];
 
 /// Each topic's test sees that it made its number of calls.

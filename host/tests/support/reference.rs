@@ -68,9 +68,12 @@ impl Under<'_> {
         [(1, self.key.len() != 16), (2, self.iv.len() != 16)]
     }
 
-    /// Once the rows are past.
-    fn mode<C: Cipher>(self) -> Mode<C> {
-        Mode::new(self.key.try_into().expect("16 bytes"), self.iv.try_into().expect("16 bytes"))
+    /// The mode under them, or 10 where the start mask is still zero after its replacement. To be asked where row 10 stands, just
+    /// before 5 and 6.
+    fn mode<C: Cipher>(self) -> Result<Mode<C>, u8> {
+        let mode = Mode::new(self.key.try_into().expect("16 bytes"), self.iv.try_into().expect("16 bytes"));
+        rows(&[(10, mode.start_mask == 0)])?;
+        Ok(mode)
     }
 }
 
@@ -110,9 +113,10 @@ fn seal<C: Cipher>(key: &[u8], iv: &[u8], message: &[u8], room: usize) -> Outcom
     let under = Under { key, iv };
     rows(&under.rows())?;
     rows(&[(3, message.len() > LONGEST_MESSAGE)])?;
+    let mode = under.mode::<C>()?;
     let blocks = padded(message);
     rows(&[(5, room < blocks.len() + 32)])?;
-    let out = under.mode::<C>().seal_blocks(iv, &blocks);
+    let out = mode.seal_blocks(iv, &blocks);
     Ok(Given { length: out.len(), out, ..Given::default() })
 }
 
@@ -121,8 +125,8 @@ fn open<C: Cipher>(key: &[u8], sealed: &[u8], room: usize) -> Outcome {
     rows(&[(3, sealed.len() < 48 || sealed.len() > 64_032 || !sealed.len().is_multiple_of(16))])?;
     let (iv, rest) = sealed.split_at(16);
     let (ciphertext, tag) = rest.split_at(rest.len() - 16);
+    let mode = Under { key, iv }.mode::<C>()?;
     rows(&[(5, room < ciphertext.len())])?;
-    let mode = Under { key, iv }.mode::<C>();
     let (blocks, preauthenticator) = mode.run(0, ciphertext, Mode::backward);
     rows(&[(6, mode.tag((ciphertext.len() / 16) as u32, preauthenticator) != number(tag))])?;
     let message = unpadded(&blocks).ok_or(7)?;
@@ -135,8 +139,9 @@ fn seal_run<C: Cipher>(under: Under, first: u32, last: bool, bytes: &[u8], rooms
     let blocks = if last { padded(bytes) } else { bytes.to_vec() };
     let count = (blocks.len() / 16) as u32;
     rows(&[(4, u64::from(first) + u64::from(count) > LIMIT)])?;
+    let mode = under.mode::<C>()?;
     rows(&[(5, rooms.0 < blocks.len() || rooms.1 < 24)])?;
-    let (out, preauthenticator) = under.mode::<C>().run(first, &blocks, Mode::forward);
+    let (out, preauthenticator) = mode.run(first, &blocks, Mode::forward);
     let record = Record { first, count, preauthenticator }.written();
     Ok(Given { length: out.len(), out, record })
 }
@@ -145,8 +150,10 @@ fn check_run<C: Cipher>(under: Under, first: u32, bytes: &[u8], record_room: usi
     rows(&under.rows())?;
     rows(&[(3, !bytes.len().is_multiple_of(16))])?;
     let count = (bytes.len() / 16) as u32;
-    rows(&[(4, u64::from(first) + u64::from(count) > LIMIT), (5, record_room < 24)])?;
-    let (_, preauthenticator) = under.mode::<C>().run(first, bytes, Mode::backward);
+    rows(&[(4, u64::from(first) + u64::from(count) > LIMIT)])?;
+    let mode = under.mode::<C>()?;
+    rows(&[(5, record_room < 24)])?;
+    let (_, preauthenticator) = mode.run(first, bytes, Mode::backward);
     record_given(Record { first, count, preauthenticator })
 }
 
@@ -179,8 +186,9 @@ fn close<C: Cipher>(under: Under, record: &[u8], room: usize) -> Outcome {
     let record = Record::read(record)?;
     rows(&under.rows())?;
     rows(&whole_rows(record))?;
+    let mode = under.mode::<C>()?;
     rows(&[(5, room < 16)])?;
-    let tag = under.mode::<C>().tag(record.count, record.preauthenticator);
+    let tag = mode.tag(record.count, record.preauthenticator);
     Ok(Given { out: tag.to_be_bytes().to_vec(), ..Given::default() })
 }
 
@@ -189,7 +197,8 @@ fn test<C: Cipher>(under: Under, record: &[u8], tag: &[u8]) -> Outcome {
     rows(&under.rows())?;
     rows(&[(3, tag.len() != 16)])?;
     rows(&whole_rows(record))?;
-    rows(&[(6, under.mode::<C>().tag(record.count, record.preauthenticator) != number(tag))])?;
+    let mode = under.mode::<C>()?;
+    rows(&[(6, mode.tag(record.count, record.preauthenticator) != number(tag))])?;
     Ok(Given::default())
 }
 

@@ -1,0 +1,119 @@
+//! Where row 10 stands in the table: a mask of nothing together with each other thing that can be wrong.
+
+use crate::support::bench::Bench;
+use crate::support::call::Call;
+use crate::support::fips197::Fips197;
+use crate::support::mode::Mode;
+use crate::support::pairs;
+use crate::support::plan;
+use crate::support::sealed_list::{record, SealedList};
+
+#[test]
+fn after_the_rows_above_and_before_those_below() {
+    let mut bench = Bench::new(plan::NO_MASK_ROWS);
+    for length in [0, 1, 15, 16, 17, 31, 32, 100] {
+        for _ in 0..10 {
+            let list = SealedList::new(&mut bench.random, pairs::of_nothing(), length);
+            keys_and_ivs_come_first(&mut bench, &list);
+            lists_come_first(&mut bench, &list);
+            runs_come_first(&mut bench, &list);
+            records_and_tags_come_first(&mut bench, &list);
+            short_outputs_come_after(&mut bench, &list);
+            wrong_tags_and_ends_come_after(&mut bench, &list);
+        }
+    }
+    bench.finish();
+}
+
+/// Rows 1 and 2, with zeros behind what is too long.
+fn keys_and_ivs_come_first(bench: &mut Bench, list: &SealedList) {
+    let (long_key, long_iv) = ([0; 40], [&list.iv[..], &[0; 24]].concat());
+    for length in (0..=40).filter(|&length| length != 16) {
+        for mut call in list.calls() {
+            if let Some(iv) = call.iv_mut() {
+                *iv = &long_iv[..length];
+                bench.refuses(2, &call);
+            }
+            *call.key_mut().expect("a key") = &long_key[..length];
+            bench.refuses(1, &call);
+        }
+    }
+}
+
+/// Row 3, for lists to seal and to open.
+fn lists_come_first(bench: &mut Bench, list: &SealedList) {
+    let SealedList { key, iv, sealed, .. } = list;
+    let room = sealed.len();
+    bench.refuses(3, &Call::Seal { key, iv, message: &[0; 64_000], room });
+    let longer = [&sealed[..], &[0; 15]].concat();
+    for length in (0..48).chain(room + 1..room + 16) {
+        bench.refuses(3, &Call::Open { key, sealed: &longer[..length], room });
+    }
+}
+
+/// Rows 3 and 4, for runs.
+fn runs_come_first(bench: &mut Bench, list: &SealedList) {
+    let SealedList { key, iv, sealed, .. } = list;
+    let (room, record_room) = (sealed.len(), 24);
+    for bytes in (1..48).filter(|length| length % 16 != 0).map(|length| &sealed[..length]) {
+        bench.refuses(3, &Call::SealRun { key, iv, first: 0, last: false, bytes, room, record_room });
+        bench.refuses(3, &Call::CheckRun { key, iv, first: 0, bytes, record_room });
+    }
+    let bytes = list.ciphertext();
+    for first in [4_001 - list.blocks() as u32, 4_000, 4_001, u32::MAX] {
+        for last in [false, true] {
+            bench.refuses(4, &Call::SealRun { key, iv, first, last, bytes, room, record_room });
+        }
+        bench.refuses(4, &Call::CheckRun { key, iv, first, bytes, record_room });
+    }
+}
+
+/// Row 24 for records, row 3 for tags, and rows 4 and 9 for the numbers in records.
+fn records_and_tags_come_first(bench: &mut Bench, list: &SealedList) {
+    let (SealedList { key, iv, record: whole, .. }, tag) = (list, list.tag());
+    for length in 0..=40 {
+        let bytes = &[whole, tag].concat()[..length];
+        if length != 24 {
+            bench.refuses(24, &Call::Close { key, iv, record: bytes, room: 16 });
+            bench.refuses(24, &Call::Test { key, iv, record: bytes, tag });
+        }
+        if length != 16 {
+            bench.refuses(3, &Call::Test { key, iv, record: whole, tag: bytes });
+        }
+    }
+    let beyond = [[0, 4_001], [1, 4_000], [4_000, 1], [u32::MAX, 1], [u32::MAX, u32::MAX]].map(|numbers| (4, numbers));
+    let parts = [[0, 0], [1, 1], [1, 3_999], [3_999, 1], [4_000, 0]].map(|numbers| (9, numbers));
+    for (number, numbers) in beyond.into_iter().chain(parts) {
+        let record = &record(numbers, &whole[8..]);
+        bench.refuses(number, &Call::Close { key, iv, record, room: 16 });
+        bench.refuses(number, &Call::Test { key, iv, record, tag });
+    }
+}
+
+/// Row 5, for each output that is lent and for both.
+fn short_outputs_come_after(bench: &mut Bench, list: &SealedList) {
+    for call in list.calls() {
+        let (room, record_room) = call.rooms();
+        for short in 0..room {
+            bench.refuses(10, &call.clone().lent(short, record_room));
+        }
+        for short in 0..record_room {
+            bench.refuses(10, &call.clone().lent(room, short));
+        }
+        bench.refuses(10, &call.lent(0, 0));
+    }
+}
+
+/// Rows 6 and 7.
+fn wrong_tags_and_ends_come_after(bench: &mut Bench, list: &SealedList) {
+    let SealedList { key, iv, record, sealed, .. } = list;
+    let mut damaged = sealed.clone();
+    let at = bench.random.within(16, sealed.len() - 1);
+    damaged[at] ^= 1 << bench.random.below(8);
+    let unpadded = Mode::<Fips197>::new(key, iv).seal_blocks(iv, &[0x55; 32]);
+    for sealed in [&damaged, &unpadded] {
+        bench.refuses(10, &Call::Open { key, sealed, room: sealed.len() });
+    }
+    let tag = &bench.random.block();
+    bench.refuses(10, &Call::Test { key, iv, record, tag });
+}
