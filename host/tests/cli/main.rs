@@ -12,6 +12,18 @@ mod options;
 #[path = "../support/program.rs"]
 mod program;
 mod streams;
+mod zero_key;
+
+/// What the other tests use of these is not used here.
+#[allow(dead_code)]
+#[path = "../support"]
+mod support {
+    pub mod cipher;
+    pub mod fips197;
+    pub mod mode;
+    pub mod pairs;
+    pub mod random;
+}
 
 const KEY: &str = "000102030405060708090A0B0C0D0E0F";
 const IV: &str = "0123456789ABCDEF0123456789ABCDEF";

@@ -1,5 +1,7 @@
 //! The man page, held against the help and, where there is one, a formatter.
 
+use balzenoh::Refusal;
+
 use crate::program::Folder;
 
 /// The words of a text that begin like options.
@@ -23,6 +25,17 @@ fn the_page_has_every_command_and_option_of_the_help() {
         for option in options(&help) {
             assert!(options(&page).contains(&option), "{command} {option}");
         }
+    }
+}
+
+#[test]
+fn the_page_and_the_help_have_every_refusal() {
+    let folder = Folder::new("refusals");
+    let (page, help) = (folder.run(&["man"]).exits(0).text(), folder.run(&["--help"]).exits(0).text());
+    let statuses = help.split("EXIT STATUS").nth(1).expect("the statuses");
+    for number in (1..=255).filter(|&number| !matches!(Refusal::from_number(number), Refusal::Unknown(_))) {
+        assert!(page.contains(&format!("\n.TP\n.B {number}\n")), "{number}");
+        assert!(statuses.contains(&format!("\n  {number:3}   ")), "{number}");
     }
 }
 
