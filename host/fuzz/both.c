@@ -132,7 +132,7 @@ uint8_t both_jump(slice mask, int32_t distance, size_t room) {
 }
 
 void print_counts(void) {
-    static const int shown[] = {0, 24, 1, 2, 3, 4, 8, 9, 5, 6, 7};
+    static const int shown[] = {0, 24, 1, 2, 3, 4, 8, 9, 10, 5, 6, 7};
     unsigned long all = 0;
     fprintf(stderr, "%-10s%10s", "compared", "calls");
     for (size_t i = 0; i < sizeof shown / sizeof shown[0]; i++)

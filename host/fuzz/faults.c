@@ -12,12 +12,28 @@ static int fault_is(const char *name) {
     return chosen != NULL && strcmp(chosen, name) == 0;
 }
 
+static const uint8_t no_key[16];
+
+/* Whether this is the IV for which step 1 comes to zero under the key, so that the key replaces the start mask. Both have 16 bytes. */
+static int is_replaced(const uint8_t *key, const uint8_t *iv) {
+    uint8_t rare[16];
+    reference_zero_mask_iv(key, rare);
+    return memcmp(rare, iv, 16) == 0;
+}
+
 uint8_t __real_balzenoh_seal(const uint8_t *, size_t, const uint8_t *, size_t, const uint8_t *, size_t, uint8_t *, size_t, size_t *);
 uint8_t __wrap_balzenoh_seal(const uint8_t *key, size_t key_len, const uint8_t *iv, size_t iv_len, const uint8_t *message, size_t message_len,
                              uint8_t *out, size_t out_len, size_t *length) {
     uint8_t refusal = __real_balzenoh_seal(key, key_len, iv, iv_len, message, message_len, out, out_len, length);
     if (fault_is("no-zeros-after-the-answer") && refusal == 0 && out_len > *length)
         out[out_len - 1] = 1;
+    if (fault_is("zero-mask-judged-after-the-output") && refusal == 10 && out_len < message_len / 16 * 16 + 48)
+        return 5;
+    if (fault_is("every-key-of-zeros-refused") && refusal == 0 && memcmp(key, no_key, 16) == 0) {
+        memset(out, 0, out_len);
+        *length = 0;
+        return 10;
+    }
     return refusal;
 }
 
@@ -31,6 +47,8 @@ uint8_t __wrap_balzenoh_open(const uint8_t *key, size_t key_len, const uint8_t *
         *length = sealed_len - 32;
     if (fault_is("padding-not-looked-at") && refusal == 7)
         return 0;
+    if (fault_is("zero-mask-taken-for-a-wrong-tag") && refusal == 10)
+        return 6;
     return refusal;
 }
 
@@ -50,6 +68,8 @@ uint8_t __wrap_balzenoh_seal_run(const uint8_t *key, size_t key_len, const uint8
         __real_balzenoh_seal_run(key, key_len, iv, iv_len, count, last, bytes, bytes_len, out, out_len, length, run, run_len);
         memcpy(run, right, 4);
     }
+    if (fault_is("zero-mask-judged-before-the-limit") && refusal == 4 && memcmp(key, no_key, 16) == 0 && is_replaced(key, iv))
+        return 10;
     return refusal;
 }
 
@@ -59,6 +79,15 @@ uint8_t __wrap_balzenoh_check_run(const uint8_t *key, size_t key_len, const uint
     uint8_t refusal = __real_balzenoh_check_run(key, key_len, iv, iv_len, first, bytes, bytes_len, run, run_len);
     if (fault_is("input-written") && refusal == 0 && bytes_len > 0)
         ((uint8_t *)(uintptr_t)bytes)[bytes_len - 1] ^= 1;
+    if (fault_is("zero-mask-let-through-for-an-empty-run") && refusal == 10 && bytes_len == 0 && run_len >= 24) {
+        run[2] = (uint8_t)(first >> 8);
+        run[3] = (uint8_t)first;
+        return 0;
+    }
+    if (fault_is("start-mask-judged-before-its-replacement") && refusal == 0 && is_replaced(key, iv)) {
+        memset(run, 0, run_len);
+        return 10;
+    }
     if (fault_is("input-read-beyond-its-end"))
         return refusal + 0 * *(volatile const uint8_t *)(bytes + bytes_len);
     return refusal;
@@ -116,15 +145,19 @@ uint8_t __wrap_balzenoh_join_list(const uint8_t *records, size_t records_len, ui
     return refusal;
 }
 
-/* Wrong for one IV of each key only: the one for which the start mask comes out as zero. */
+/* The first fault is wrong for one IV of each key only, the one for which the start mask comes out as zero; the second for one IV only. */
 uint8_t __real_balzenoh_close(const uint8_t *, size_t, const uint8_t *, size_t, const uint8_t *, size_t, uint8_t *, size_t);
 uint8_t __wrap_balzenoh_close(const uint8_t *key, size_t key_len, const uint8_t *iv, size_t iv_len, const uint8_t *run, size_t run_len,
                               uint8_t *tag, size_t tag_len) {
-    uint8_t refusal = __real_balzenoh_close(key, key_len, iv, iv_len, run, run_len, tag, tag_len), rare[16];
-    if (fault_is("zero-start-mask-kept") && refusal == 0) {
-        reference_zero_mask_iv(key, rare);
-        tag[0] ^= memcmp(rare, iv, 16) == 0;
+    uint8_t refusal = __real_balzenoh_close(key, key_len, iv, iv_len, run, run_len, tag, tag_len);
+    if (fault_is("zero-start-mask-kept") && refusal == 0)
+        tag[0] ^= is_replaced(key, iv);
+    if (fault_is("iv-of-a-zero-mask-refused-under-any-key") && refusal == 0 && is_replaced(no_key, iv)) {
+        memset(tag, 0, tag_len);
+        return 10;
     }
+    if (fault_is("output-left-after-a-zero-mask") && refusal == 10 && tag_len > 0)
+        tag[tag_len - 1] = 1;
     return refusal;
 }
 
@@ -137,6 +170,8 @@ uint8_t __wrap_balzenoh_test(const uint8_t *key, size_t key_len, const uint8_t *
         other[15] ^= 1;
         return __real_balzenoh_test(key, key_len, iv, iv_len, run, run_len, other, 16);
     }
+    if (fault_is("zero-mask-let-through-in-testing") && refusal == 10)
+        return 6;
     return refusal;
 }
 

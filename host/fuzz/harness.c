@@ -1,6 +1,7 @@
 /* The fuzzer's harness. It reads the fuzzer's bytes as a list of calls on one key, IV and message, and makes each of the library and of the
    reference. Many inputs are derived: genuine sealed records, some damaged; tags that are right over a text with no padding; records that
-   are neighbours, often of equal or alternating counts; lists cut into runs. So calls get past the refusals that random bytes would end in. */
+   are neighbours, often of equal or alternating counts; lists cut into runs; pairs of key and IV for which step 1 comes to zero, or nearly. So
+   calls get past the refusals that random bytes would end in. */
 #include "both.h"
 #include "draw.h"
 #include "reference.h"
@@ -42,29 +43,30 @@ static void call_seal(draw *d) {
     both_seal(k, v, bytes_of(message, len), draw_room(d, len / 16 * 16 + 48));
 }
 
-/* A genuine record, perhaps damaged, perhaps of a wrong length. */
+/* A record as the mode gives it, perhaps damaged, perhaps of a wrong length. */
 static void call_open(draw *d) {
-    size_t len = draw_length(d) % (16 * LIMIT), length;
-    reference_seal(key, 16, iv, 16, message, len, buffer, len / 16 * 16 + 48, &length);
-    maybe_damage(d, buffer, length);
+    static uint8_t text[16 * LIMIT];
+    size_t len = draw_length(d) % sizeof text, blocks = len / 16 + 1;
+    memset(text, 0, 16 * blocks);
+    memcpy(text, message, len);
+    text[len] = 0x80;
+    reference_seal_text(key, iv, text, blocks, buffer);
+    maybe_damage(d, buffer, 16 * blocks + 32);
     slice k = draw_key(d);
-    slice sealed = bytes_of(buffer, draw_about(d, length));
+    slice sealed = bytes_of(buffer, draw_about(d, 16 * blocks + 32));
     both_open(k, sealed, draw_room(d, sealed.len < 32 ? 0 : sealed.len - 32));
 }
 
-/* A text that ends as drawn, sealed as a middle run and closed: the tag is right, the padding mostly wrong. */
+/* A text that ends as drawn, with no padding added: the tag is right, the padding mostly wrong. */
 static void call_open_unpadded(draw *d) {
     static uint8_t text[16 * 32];
-    uint8_t run[RECORD];
-    size_t len = 16 * (1 + draw_below(d, 31)), length;
+    size_t len = 16 * (1 + draw_below(d, 31));
     memcpy(text, message, len);
     memset(text + len - 16, 0, 16);
     size_t place = len - 1 - draw_below(d, 16), other = len - 1 - draw_below(d, 16);
     text[place] ^= draw_rarely(d, 2) ? draw_byte(d) : 0x80;
     text[other] ^= draw_rarely(d, 4) ? draw_byte(d) : 0;
-    memcpy(buffer, iv, 16);
-    reference_seal_run(key, 16, iv, 16, 0, 0, text, len, buffer + 16, len, &length, run, RECORD);
-    reference_close(key, 16, iv, 16, run, RECORD, buffer + 16 + len, 16);
+    reference_seal_text(key, iv, text, len / 16, buffer);
     slice k = draw_key(d);
     both_open(k, bytes_of(buffer, len + 32), draw_room(d, len));
 }
@@ -226,16 +228,19 @@ static void call_jump(draw *d) {
 
 /* ---- a list in runs */
 
-/* Seals the run number i of a list cut at `cuts`, into its place in the buffer, and keeps its record. */
-static void seal_cut(const size_t *cuts, size_t runs, size_t i, size_t len) {
+/* Seals the run number i of a list cut at `cuts`, into its place in the buffer, and keeps its record. Gives the refusal of a pair that masks
+   nothing; checking the run then gets the same one. */
+static uint8_t seal_cut(const size_t *cuts, size_t runs, size_t i, size_t len) {
     uint8_t last = i + 1 == runs;
     size_t start = 16 * cuts[i], end = last ? len : 16 * cuts[i + 1];
     size_t need = last ? (end - start) / 16 * 16 + 16 : end - start;
-    both_seal_run(bytes_of(key, 16), bytes_of(iv, 16), (uint32_t)cuts[i], last, bytes_of(message + start, end - start), need, RECORD);
+    uint8_t refusal =
+        both_seal_run(bytes_of(key, 16), bytes_of(iv, 16), (uint32_t)cuts[i], last, bytes_of(message + start, end - start), need, RECORD);
     memcpy(buffer + 16 + start, answer, need);
     memcpy(records + RECORD * i, answer_run, RECORD);
     both_check_run(bytes_of(key, 16), bytes_of(iv, 16), (uint32_t)cuts[i], bytes_of(buffer + 16 + start, need), RECORD);
     must_be_same("a checked run's record", answer_run, records + RECORD * i, RECORD);
+    return refusal;
 }
 
 /* The full blocks at which the runs of a list begin: anywhere, or so that all but the last have one length. */
@@ -246,12 +251,14 @@ static void draw_cuts(draw *d, size_t *cuts, size_t runs, size_t blocks) {
         cuts[i] = cuts[i - 1] + (equal ? blocks / runs : draw_below(d, 256) % (blocks - cuts[i - 1] + 1));
 }
 
-/* The runs from last to first, joined as a list and closed, are the record that sealing in one piece gives; and it opens. */
+/* The runs from last to first, joined as a list and closed, are the record that sealing in one piece gives; and it opens. Where the pair masks
+   nothing no run is sealed, and there is nothing to join. */
 static void call_cut(draw *d) {
     size_t len = draw_below(d, 1600), cuts[RUNS], runs = 1 + draw_below(d, RUNS), text = len / 16 * 16 + 16;
     draw_cuts(d, cuts, runs, len / 16);
     for (size_t i = runs; i > 0; i--)
-        seal_cut(cuts, runs, i - 1, len);
+        if (seal_cut(cuts, runs, i - 1, len) != 0)
+            return;
     memcpy(buffer, iv, 16);
     both_join_list(bytes_of(records, RECORD * runs), RECORD);
     memcpy(records, answer_run, RECORD);
@@ -276,16 +283,23 @@ int LLVMFuzzerInitialize(int *count, char ***arguments) {
     return 0;
 }
 
-/* Key, IV and the message's beginning for all calls of an input; what follows in a long message is the same noise for all. Sometimes the IV
-   is the one for which the start mask is replaced by the key. */
+/* Often the key of zeros, and often the IV for which the key replaces the start mask, with one bit of either flipped or not. Key of zeros and that
+   IV together mask nothing. */
+static void draw_pair(draw *d) {
+    if (draw_rarely(d, 3))
+        memset(key, 0, sizeof key);
+    if (!draw_rarely(d, 2))
+        return;
+    reference_zero_mask_iv(key, iv);
+    maybe_damage(d, draw_rarely(d, 2) ? key : iv, 16);
+}
+
+/* Key, IV and the message's beginning for all calls of an input; what follows in a long message is the same noise for all. */
 static void draw_list(draw *d) {
     draw_fill(d, key, sizeof key);
     draw_fill(d, iv, sizeof iv);
     draw_fill(d, message, 1024);
-    if (draw_rarely(d, 4))
-        memset(key, 0, sizeof key);
-    if (draw_rarely(d, 4))
-        reference_zero_mask_iv(key, iv);
+    draw_pair(d);
 }
 
 int LLVMFuzzerTestOneInput(const uint8_t *bytes, size_t len) {

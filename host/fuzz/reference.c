@@ -36,6 +36,10 @@ static poly sum(poly a, poly b) {
     return a;
 }
 
+static int is_zero(poly p) {
+    return p.upper == 0 && p.lower == 0;
+}
+
 static poly times_x(poly p) {
     int fell_out = p.upper >> 63 != 0;
     p.upper = p.upper << 1 | p.lower >> 63;
@@ -79,13 +83,13 @@ static poly encrypt(const aes_keys *keys, poly p) {
     return to_poly(block);
 }
 
-/* Step 1, and from there to block `first`. */
-static poly mask_at(const aes_keys *keys, const uint8_t *key, const uint8_t *iv, uint32_t first) {
+/* Step 1: makes the round keys, and gives the start mask, which the key replaces where it is zero. A call refuses, with 10, where it is
+   still zero after that. */
+static poly step_1(aes_keys *keys, const uint8_t *key, const uint8_t *iv) {
+    aes_expand(keys, key);
     poly k = to_poly(key);
     poly mask = sum(encrypt(keys, sum(to_poly(iv), k)), k);
-    if (mask.upper == 0 && mask.lower == 0)
-        mask = k;
-    return times_x_to_the(mask, first);
+    return is_zero(mask) ? k : mask;
 }
 
 /* Step 2 over `blocks` blocks: the pre-authenticator begun from zero. `mask` is moved on. */
@@ -123,6 +127,13 @@ static poly open_blocks(const aes_keys *keys, poly *mask, const uint8_t *ciphert
 /* Step 3; `mask` is the one after the last block. */
 static poly tag_of(const aes_keys *keys, poly pre, poly mask) {
     return sum(encrypt(keys, sum(pre, mask)), pre);
+}
+
+/* Steps 2 and 3 over a whole text: IV, ciphertext and tag. */
+static void seal_text(const aes_keys *keys, poly mask, const uint8_t *iv, const uint8_t *text, size_t blocks, uint8_t *sealed) {
+    poly pre = seal_blocks(keys, &mask, text, blocks, sealed + 16);
+    memcpy(sealed, iv, 16);
+    from_poly(sealed + 16 + 16 * blocks, tag_of(keys, pre, mask));
 }
 
 /* The message with its padding, in memory that the next call uses again. */
@@ -194,13 +205,12 @@ uint8_t reference_seal(const uint8_t *key, size_t key_len, const uint8_t *iv, si
         return 2;
     if (message_len > 63999)
         return 3;
+    poly mask = step_1(&keys, key, iv);
+    if (is_zero(mask))
+        return 10;
     if (out_len < 16 * blocks + 32)
         return 5;
-    aes_expand(&keys, key);
-    poly mask = mask_at(&keys, key, iv, 0);
-    poly pre = seal_blocks(&keys, &mask, padded(message, message_len), blocks, out + 16);
-    memcpy(out, iv, 16);
-    from_poly(out + 16 + 16 * blocks, tag_of(&keys, pre, mask));
+    seal_text(&keys, mask, iv, padded(message, message_len), blocks, out);
     *length = 16 * blocks + 32;
     return 0;
 }
@@ -217,10 +227,11 @@ uint8_t reference_open(const uint8_t *key, size_t key_len, const uint8_t *sealed
     if (sealed_len < 48 || sealed_len > 64032 || sealed_len % 16 != 0)
         return 3;
     size_t text_len = sealed_len - 32;
+    poly mask = step_1(&keys, key, sealed);
+    if (is_zero(mask))
+        return 10;
     if (out_len < text_len)
         return 5;
-    aes_expand(&keys, key);
-    poly mask = mask_at(&keys, key, sealed, 0);
     poly pre = open_blocks(&keys, &mask, sealed + 16, text_len / 16, text);
     from_poly(tag, tag_of(&keys, pre, mask));
     if (memcmp(tag, sealed + 16 + text_len, 16) != 0)
@@ -249,10 +260,12 @@ uint8_t reference_seal_run(const uint8_t *key, size_t key_len, const uint8_t *iv
         return 3;
     if (first + (uint64_t)blocks > LIMIT)
         return 4;
+    poly mask = step_1(&keys, key, iv);
+    if (is_zero(mask))
+        return 10;
     if (out_len < 16 * blocks || run_len < RECORD)
         return 5;
-    aes_expand(&keys, key);
-    poly mask = mask_at(&keys, key, iv, first);
+    mask = times_x_to_the(mask, first);
     poly pre = seal_blocks(&keys, &mask, last ? padded(bytes, bytes_len) : bytes, blocks, out);
     write_record(run, first, (uint32_t)blocks, pre);
     *length = 16 * blocks;
@@ -271,10 +284,12 @@ uint8_t reference_check_run(const uint8_t *key, size_t key_len, const uint8_t *i
         return 3;
     if (first + (uint64_t)(bytes_len / 16) > LIMIT)
         return 4;
+    poly mask = step_1(&keys, key, iv);
+    if (is_zero(mask))
+        return 10;
     if (run_len < RECORD)
         return 5;
-    aes_expand(&keys, key);
-    poly mask = mask_at(&keys, key, iv, first);
+    mask = times_x_to_the(mask, first);
     write_record(run, first, (uint32_t)(bytes_len / 16), open_blocks(&keys, &mask, bytes, bytes_len / 16, NULL));
     return 0;
 }
@@ -313,10 +328,9 @@ uint8_t reference_join_list(const uint8_t *records, size_t records_len, uint8_t 
     return 0;
 }
 
-static poly closing_tag(const uint8_t *key, const uint8_t *iv, const uint8_t *run) {
-    aes_keys keys;
-    aes_expand(&keys, key);
-    return tag_of(&keys, to_poly(run + 8), mask_at(&keys, key, iv, number(run + 4)));
+/* Step 3 from a record; `start` is the start mask. */
+static poly closing_tag(const aes_keys *keys, poly start, const uint8_t *run) {
+    return tag_of(keys, to_poly(run + 8), times_x_to_the(start, number(run + 4)));
 }
 
 static int is_whole(const uint8_t *run) {
@@ -325,6 +339,7 @@ static int is_whole(const uint8_t *run) {
 
 uint8_t reference_close(const uint8_t *key, size_t key_len, const uint8_t *iv, size_t iv_len, const uint8_t *run, size_t run_len,
                         uint8_t *tag, size_t tag_len) {
+    aes_keys keys;
     zero(tag, tag_len);
     if (run_len != RECORD)
         return 24;
@@ -336,14 +351,18 @@ uint8_t reference_close(const uint8_t *key, size_t key_len, const uint8_t *iv, s
         return 4;
     if (!is_whole(run))
         return 9;
+    poly mask = step_1(&keys, key, iv);
+    if (is_zero(mask))
+        return 10;
     if (tag_len < 16)
         return 5;
-    from_poly(tag, closing_tag(key, iv, run));
+    from_poly(tag, closing_tag(&keys, mask, run));
     return 0;
 }
 
 uint8_t reference_test(const uint8_t *key, size_t key_len, const uint8_t *iv, size_t iv_len, const uint8_t *run, size_t run_len,
                        const uint8_t *tag, size_t tag_len) {
+    aes_keys keys;
     if (run_len != RECORD)
         return 24;
     if (key_len != 16)
@@ -356,8 +375,10 @@ uint8_t reference_test(const uint8_t *key, size_t key_len, const uint8_t *iv, si
         return 4;
     if (!is_whole(run))
         return 9;
-    poly right = closing_tag(key, iv, run), given = to_poly(tag);
-    return right.upper == given.upper && right.lower == given.lower ? 0 : 6;
+    poly mask = step_1(&keys, key, iv);
+    if (is_zero(mask))
+        return 10;
+    return is_zero(sum(closing_tag(&keys, mask, run), to_poly(tag))) ? 0 : 6;
 }
 
 uint8_t reference_jump(const uint8_t *mask, size_t mask_len, int32_t distance, uint8_t *out, size_t out_len) {
@@ -373,7 +394,13 @@ uint8_t reference_jump(const uint8_t *mask, size_t mask_len, int32_t distance, u
     return 0;
 }
 
-/* The start mask is zero where the cipher takes IV plus key to the key. */
+void reference_seal_text(const uint8_t key[16], const uint8_t iv[16], const uint8_t *text, size_t blocks, uint8_t *sealed) {
+    aes_keys keys;
+    poly mask = step_1(&keys, key, iv);
+    seal_text(&keys, mask, iv, text, blocks, sealed);
+}
+
+/* The start mask comes out as zero where the cipher takes IV plus key to the key. */
 void reference_zero_mask_iv(const uint8_t key[16], uint8_t iv[16]) {
     aes_keys keys;
     uint8_t block[16];

@@ -1,5 +1,5 @@
-/* The reference judged before it judges: FIPS 197's example (appendix C.1), the mode's published one- and two-block values, and jumps back
-   between its published masks. */
+/* The reference judged before it judges: FIPS 197's example (appendix C.1), the mode's published one- and two-block values, jumps back
+   between its published masks, and the IV of a mask of nothing, as OpenSSL gives it. */
 #include "aes.h"
 #include "reference.h"
 
@@ -57,6 +57,13 @@ static void check_jump(const char *mask, int32_t distance, const char *jumped, c
     must_be(out, jumped, what);
 }
 
+/* Under the key of zeros: `openssl enc -d -aes-128-ecb -nopad` of a block of zeros. */
+static void check_zero_mask(void) {
+    uint8_t none[16] = {0}, iv[16];
+    reference_zero_mask_iv(none, iv);
+    must_be(iv, "140F0F1011B5223D79587717FFD9EC3A", "the IV with which a key of zeros masks nothing");
+}
+
 void reference_start(void) {
     uint8_t key[16], iv[16], block[16];
     aes_start();
@@ -65,6 +72,7 @@ void reference_start(void) {
     from_hex(block, "00112233445566778899AABBCCDDEEFF");
     check_cipher(key, block);
     check_mode(key, iv, block);
+    check_zero_mask();
     check_jump("00000000000000000000000000000001", -1, "80000000000000000000000000000043", "ticket P1's example");
     check_jump("FBDA5324122747B5193D945E1FA869D3", -1, "FDED29920913A3DA8C9ECA2F0FD434AA", "the second mask jumped back");
     check_jump("1E68C2E51D9A74F67A799130112CE065", -1, "8F3461728ECD3A7B3D3CC89808967071", "the mask after the last block jumped back");
