@@ -72,18 +72,18 @@
  *  - Its size, and the stack that each call was seen to use, from its caller's frame down, as
  *    host/stack/run printed them, in bytes:
  *
- *      code      23400
+ *      code      23802
  *      constants  2016
  *      variables     0
  *
- *      seal       1696
- *      open       2128
- *      seal_run   1712
- *      check_run  1728
+ *      seal       1952
+ *      open       2384
+ *      seal_run   1984
+ *      check_run  1968
  *      join        832
  *      join_list   928
- *      close      1696
- *      test       1680
+ *      close      1712
+ *      test       1696
  *      jump        576
  *
  *    No function recurses. No proof bounds the stack.

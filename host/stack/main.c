@@ -1,10 +1,11 @@
-/* Prints the stack that each call was seen to use, the deepest over lists of 1 to 4,000 blocks. */
+/* Prints the stack that each call was seen to use: the deepest over lists of 1 to 4,000 blocks, under a key and under the key of zeros, whose start
+   mask is looked at before all work. */
 #include "balzenoh.h"
 #include "paint.h"
 
 #include <stdio.h>
 
-static const uint8_t key[16] = {1, 2, 3}, iv[16] = {4, 5, 6};
+static const uint8_t keys[][16] = {{1, 2, 3}, {0}}, iv[16] = {4, 5, 6}, *key;
 static uint8_t message[BALZENOH_LONGEST_MESSAGE], sealed[BALZENOH_LONGEST_SEALED], out[BALZENOH_LONGEST_SEALED];
 static uint8_t records[3][BALZENOH_RUN_RECORD], run[BALZENOH_RUN_RECORD], tag[16], mask[16] = {7, 8, 9};
 static uint8_t answer;
@@ -106,14 +107,15 @@ static uint32_t next(uint32_t number) {
 /* The most that a call was seen to use; 0 where that cannot be seen. */
 static size_t deepest(size_t call) {
     size_t most = 0;
-    for (blocks = 1; blocks <= BALZENOH_LIMIT; blocks = next(blocks)) {
-        calls[call].prepare();
-        size_t used = stack_used(calls[call].call);
-        if (used == 0)
-            return 0;
-        if (used > most)
-            most = used;
-    }
+    for (size_t i = 0; i < sizeof keys / sizeof *keys; i++)
+        for (key = keys[i], blocks = 1; blocks <= BALZENOH_LIMIT; blocks = next(blocks)) {
+            calls[call].prepare();
+            size_t used = stack_used(calls[call].call);
+            if (used == 0)
+                return 0;
+            if (used > most)
+                most = used;
+        }
     return most;
 }
 
