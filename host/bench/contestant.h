@@ -1,4 +1,5 @@
-/* What is timed: one contestant's calls. All lengths are right and all outputs long enough; the C contestants check neither. */
+/* What is timed: one contestant's calls. All lengths are right, all outputs long enough, and no start mask is zero; the C contestants check
+   none of that. */
 #ifndef CONTESTANT_H
 #define CONTESTANT_H
 

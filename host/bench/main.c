@@ -12,6 +12,7 @@
 
 static const struct contestant *const contestants[CONTESTANTS] = {&ours, &bytes_o3, &bytes_no_slp, &words};
 static work *const tasks[TASKS] = {seal_list, open_list, check_list, encrypt_blocks, decrypt_blocks};
+static work *const tasks_under_zeros[MODE_TASKS] = {seal_under_zeros, open_under_zeros, check_under_zeros};
 
 static double now(void) {
     struct timespec t;
@@ -58,6 +59,8 @@ static void measure_round(struct figures *f) {
             measure(&f->task[LONG][task][who], 1, tasks[task], contestants[who], LONG_LIST);
             measure(&f->task[SHORT][task][who], 100, tasks[task], contestants[who], SHORT_LIST);
         }
+    for (int task = 0; task < MODE_TASKS; task++)
+        measure(&f->under_zeros[task], 100, tasks_under_zeros[task], &ours, SHORT_LIST);
     measure_threads(f);
     measure_masks(f, FORWARD);
     measure_masks(f, BACK);

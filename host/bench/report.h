@@ -5,12 +5,13 @@
 #include "work.h"
 
 enum { OURS, BYTES_O3, BYTES_NO_SLP, WORDS, CONTESTANTS };
-enum { SEAL, OPEN, CHECK, ENCRYPT, DECRYPT, TASKS };
+enum { SEAL, OPEN, CHECK, MODE_TASKS, ENCRYPT = MODE_TASKS, DECRYPT, TASKS };
 enum { LONG, SHORT, SIZES };
 
 /* The best times, in nanoseconds a call. */
 struct figures {
     double task[SIZES][TASKS][CONTESTANTS];
+    double under_zeros[MODE_TASKS];
     double far[DIRECTIONS][WAYS], jump_one[DIRECTIONS];
     double join[SHAPES][JOINS];
     double one_thread, two_threads, with_helper, one_thread_lists, two_threads_lists;

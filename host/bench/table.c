@@ -28,6 +28,14 @@ static void print_rates(const struct figures *f, int size) {
     }
 }
 
+static void print_under_zeros(const struct figures *f) {
+    printf("the key of zeros, 64 bytes, ns a call%17s%12s%10s\n", "another key", "zeros", "ratio");
+    for (int task = 0; task < MODE_TASKS; task++) {
+        double other = f->task[SHORT][task][OURS], zeros = f->under_zeros[task];
+        printf("  %-42s%10.0f%12.0f%10.2f\n", task_names[task], other, zeros, zeros / other);
+    }
+}
+
 static void print_over_aes(const struct figures *f, int task, int aes) {
     printf("  %-4s over %-13s%10.3f%10.3f%20.3f\n", task_names[task], task_names[aes],
            over_aes(f, task, aes, OURS), over_aes(f, task, aes, BYTES_O3), over_aes(f, task, aes, WORDS));
@@ -76,6 +84,7 @@ void print_table(const struct figures *f) {
     printf("%-24s%10s%10s%10s%10s%12s%12s\n", "", "Balzenoh", "bytes", "no SLP", "32-bit", "to bytes", "to 32-bit");
     print_rates(f, LONG);
     print_rates(f, SHORT);
+    print_under_zeros(f);
     printf("the mode over bare AES, 64000 bytes (the paper's figure: 0.884)\n");
     print_over_aes(f, SEAL, ENCRYPT);
     print_over_aes(f, OPEN, DECRYPT);

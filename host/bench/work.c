@@ -5,7 +5,8 @@
 #include <string.h>
 
 uint8_t key[16], iv[16], message[16 * LONG_LIST], output[16 * LONG_LIST + 32];
-static uint8_t sealed_long[16 * LONG_LIST + 32], sealed_short[16 * SHORT_LIST + 32];
+static const uint8_t zeros[16];
+static uint8_t sealed_long[16 * LONG_LIST + 32], sealed_short[16 * SHORT_LIST + 32], sealed_zeros[16 * SHORT_LIST + 32];
 
 const uint8_t *sealed_record(size_t blocks) {
     return blocks == LONG_LIST ? sealed_long : sealed_short;
@@ -23,6 +24,7 @@ void prepare(void) {
     }
     ours.seal(key, iv, message, 16 * LONG_LIST - 1, sealed_long);
     ours.seal(key, iv, message, 16 * SHORT_LIST - 1, sealed_short);
+    ours.seal(zeros, iv, message, 16 * SHORT_LIST - 1, sealed_zeros);
 }
 
 void seal_list(const struct contestant *who, size_t blocks) {
@@ -35,6 +37,18 @@ void open_list(const struct contestant *who, size_t blocks) {
 
 void check_list(const struct contestant *who, size_t blocks) {
     who->check(key, iv, sealed_record(blocks) + 16, 16 * blocks, output);
+}
+
+void seal_under_zeros(const struct contestant *who, size_t blocks) {
+    who->seal(zeros, iv, message, 16 * blocks - 1, output);
+}
+
+void open_under_zeros(const struct contestant *who, size_t blocks) {
+    who->open(zeros, sealed_zeros, 16 * blocks + 32, output);
+}
+
+void check_under_zeros(const struct contestant *who, size_t blocks) {
+    who->check(zeros, iv, sealed_zeros + 16, 16 * blocks, output);
 }
 
 void encrypt_blocks(const struct contestant *who, size_t blocks) {
@@ -71,6 +85,9 @@ void compare_results(const struct contestant *const *contestants, int count) {
         compare("AES encrypt", encrypt_blocks, blocks, contestants, count);
         compare("AES decrypt", decrypt_blocks, blocks, contestants, count);
     }
+    compare("seal under zeros", seal_under_zeros, SHORT_LIST, contestants, count);
+    compare("open under zeros", open_under_zeros, SHORT_LIST, contestants, count);
+    compare("check under zeros", check_under_zeros, SHORT_LIST, contestants, count);
     open_list(contestants[0], LONG_LIST);
     if (memcmp(output, message, 16 * LONG_LIST - 1) != 0)
         differs("the opened list", "the message");

@@ -11,6 +11,9 @@ typedef void work(const struct contestant *who, size_t blocks);
 
 work seal_list, open_list, check_list, encrypt_blocks, decrypt_blocks;
 
+/* The first three on a short list, under the key of zeros, whose start mask the library looks at before all work. */
+work seal_under_zeros, open_under_zeros, check_under_zeros;
+
 /* The ways to take a mask over so many blocks, forward and back: a jump by the library, or as many single steps in C. Forward a step is a
    multiplication by the polynomial's variable, back a division; `who` is not used. */
 enum { FORWARD, BACK, DIRECTIONS };
