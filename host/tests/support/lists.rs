@@ -31,7 +31,7 @@ pub fn equal(count: u32, records: usize) -> Vec<u32> {
 
 /// The two counts in turn, each so many times in a row.
 pub fn in_turn(one: u32, other: u32, times: usize, records: usize) -> Vec<u32> {
-    fitting((0..records).map(|at| if at / times % 2 == 0 { one } else { other }))
+    fitting((0..records).map(|at| if (at / times).is_multiple_of(2) { one } else { other }))
 }
 
 /// Stretches of equal counts, each count one of a few, so that one comes back after another.
