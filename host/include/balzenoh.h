@@ -72,7 +72,7 @@
  *  - Its size, and the stack that each call was seen to use, from its caller's frame down, as
  *    host/stack/run printed them, in bytes:
  *
- *      code      23802
+ *      code      23820
  *      constants  2016
  *      variables     0
  *
