@@ -38,7 +38,8 @@
  *  - A key of zeros. It is no key: anyone who tries it opens every list under it. With one IV it is
  *    refused (10, below), with all others it is taken like any key. Load a real key before the first
  *    list.
- *  - Timing. The cipher's tables are indexed by secret bytes. Nothing is promised of time or caches.
+ *  - Timing. The cipher's tables are indexed by secret bytes, and a key of zeros takes longer. Nothing
+ *    is promised of time or caches.
  *  - The stack. Keys, masks and plaintext that were on it are not wiped.
  *  - Left out: the paper's hash finish, headers, and keys of 192 or 256 bits.
  *
