@@ -2,7 +2,7 @@
 
 use std::fmt;
 
-/// The reason for which a call was refused: a row of the table of refusals.
+/// The reason for which a call was refused: a row of the table of refusals. Rows may be added: a `match` needs an arm for all others.
 ///
 /// ```
 /// use balzenoh::{Key, Refusal};
@@ -12,6 +12,7 @@ use std::fmt;
 /// assert!(refusal.to_string().starts_with("refusal 1: The key is not 16 bytes long."));
 /// ```
 #[derive(Clone, Copy, Debug, PartialEq, Eq, Hash)]
+#[non_exhaustive]
 pub enum Refusal {
     /// 1: the key is not 16 bytes.
     KeyLength,
