@@ -1,5 +1,5 @@
 -- What the demands may not lose: whatever sealing and opening take may be cut, at every block; every call that document 01 allows is allowed, at
--- every place; no pair but one is left out, and its row is all that is new; jumps go both ways up to the limit; the table's order is document 01's, and no other order passes for it.
+-- every place; no pair but one is left out, every call refuses that one, and its row is all that is new; jumps go both ways up to the limit; the table's order is document 01's, and no other order passes for it.
 use mathlib.Core.Path.{_≡_, refl, sym, subst, _∙_}
 use mathlib.Core.Logic.{_⊎_, inl, inr}
 use mathlib.Core.List.{List, [], _∷_}
@@ -8,13 +8,14 @@ use Prim.Native.Nat.{ℕ, suc, _+_, _*_, _%_, _≤_, _<_}
 use lib.IntN.{ℤ, pos, negsuc, negℤ, negℤ-negℤ}
 use lib.ListN.{length}
 use native.Mathlib.Omega.{arith}
-use Rattle.blocks.specs.Bytes.{Block, same, concat}
+use Rattle.blocks.specs.Bytes.{Block, same, firstBlocks, concat}
 use Rattle.blocks.proofs.Sign.{abs-neg}
-use Rattle.mode.specs.Mode.{Cipher, ciphertext, RunRecord, zeroBlock, encrypt, blocksOf, ivPart, cipherPart, tagPart, sealedRecord, unbrokenTag, UnbrokenCheck}
-use Rattle.mode.specs.Table.{Answer, refused, given, tableOrder, inOrder, not16, unaligned, tooLong, notSealed, beyond, tooFar, apart, notWhole, zeroMask, tooShort, limit, longestMessage}
-use Rattle.mode.specs.Calls.{Kind, middle, last, blocksOfRun, unalignedRun, seal, sealRows, openSealed, openRows, unpadded, notPadded, plaintextOf, sealRunRows, checkRunRows, closingTag, closeRows, testRows, Calls}
-use Rattle.mode.specs.Parallel.{sealing, checking, ivOf, lastKind, textOf, Fits, Cut, Setting, WellFormed, Segment, isRecorded, segment, Call, runAt, joinPair, joinMany, consecutive, AllRecorded, recordsAt, Allowed, start, afterAll, EachCall}
-use Rattle.mode.specs.Demands.{Gives, InTable, NonzeroMask, Demand2a, Demand2d, Agrees, Demand3, ZeroMask, without, JumpsTo, SignedJump}
+use Rattle.mode.specs.Mode.{Cipher, plaintext, ciphertext, RunRecord, zeroBlock, encrypt, blocksOf, ivPart, cipherPart, tagPart, sealedRecord, unbrokenTag, UnbrokenCheck}
+use Rattle.mode.specs.Table.{Answer, refused, given, decide, tableOrder, inOrder, not16, unaligned, tooLong, notSealed, beyond, tooFar, apart, notWhole, zeroMask, tooShort, limit, longestMessage}
+use Rattle.mode.specs.Calls.{Kind, middle, last, outcomeBy, blocksOfRun, unalignedRun, seal, openSealed, openRows, unpadded, notPadded, orEmpty, plaintextOf, passFrom, runRecord, sealRun, checkRun, closingTag, close, test, Calls, callsOf}
+use Rattle.mode.specs.Parallel.{sealing, checking, ivOf, lastKind, textOf, Fits, Cut, Setting, WellFormed, Segment, isRecorded, segment, Call, runAt, joinPair, joinMany, consecutive, AllRecorded, recordsAt, Allowed, start, roomOf, runOutcome, afterAll, EachCall}
+use Rattle.mode.specs.Demands.{Gives, Refuses, InTable, NonzeroMask, Demand2a, Demand2d, Agrees, Demand3, ZeroMask, zeroMaskIv, without, AsBefore, RunRefused, ZeroMaskRack, JumpsTo, SignedJump}
+use Rattle.mode.proofs.Rows.{is-whole}
 use Rattle.mode.proofs.Passed.{has-16}
 use Rattle.mode.proofs.Demand2.{sealing-given, message-fits, sealed-lengths}
 
@@ -107,58 +108,108 @@ pub cut-else : (c : Cipher) (m : Calls) → Demand3 c m → (s : Setting) → ze
     → (calls : List Call) → EachCall m s Allowed (start s) calls → Agrees c m s calls (afterAll m s (start s) calls)
 cut-else c m d = d
 
--- what the calls were compared with: their rows as they stood before, word for word
-module _ (c : Cipher) (key iv : List ℕ) where
-  pub seal-before : (message : List ℕ) (room : ℕ)
-      → without 10 (sealRows c key iv message room)
-      ≡ (1, not16 key) ∷ (2, not16 iv) ∷ (3, tooLong message) ∷ (5, tooShort room (length (sealedRecord c key iv message))) ∷ []
-  unfolding without
-  seal-before message room = refl
+-- under it every call gives 10: whatever is lent, whatever the tag, and for an empty run at every block up to the limit
+module _ (c : Cipher) (z : ZeroMask c) where
+  abbrev iv₀ : List ℕ
+  iv₀ = zeroMaskIv c
 
-  pub open-before : (sealed : List ℕ) (room : ℕ)
-      → without 10 (openRows c key sealed room)
-      ≡ (1, not16 key)
+  pub seal-ten : (message : List ℕ) (room : ℕ) → length message ≤ longestMessage → Refuses (seal c zeroBlock iv₀ message room) 10 room
+  seal-ten message room h = z .of-seal zeroBlock iv₀ message room (z .one-iv .1) refl (z .one-iv .0 .long) h
+
+  pub open-ten : (sealed : List ℕ) (room : ℕ) → notSealed sealed ≡ false → ivPart sealed ≡ iv₀ → Refuses (openSealed c zeroBlock sealed room) 10 room
+  open-ten sealed room h e = z .of-open zeroBlock sealed room (rw e (z .one-iv .1)) refl h
+
+  pub seal-run-ten : (first : ℕ) (kind : Kind) (bytes : List ℕ) (room : ℕ) → unalignedRun kind bytes ≡ false → first + length (blocksOfRun kind bytes) ≤ limit
+      → Refuses (sealRun c zeroBlock iv₀ first kind bytes room) 10 room
+  seal-run-ten first kind bytes room a h = z .of-seal-run zeroBlock iv₀ first kind bytes room (z .one-iv .1) refl (z .one-iv .0 .long) a h
+
+  pub empty-run-ten : (first room : ℕ) → first ≤ limit
+      → Refuses (sealRun c zeroBlock iv₀ first middle [] room) 10 room × (checkRun c zeroBlock iv₀ first [] ≡ refused 10)
+  unfolding unalignedRun unaligned blocksOfRun blocksOf firstBlocks
+  empty-run-ten first room h = (
+    seal-run-ten first middle [] room refl (omega arith),
+    z .of-check-run zeroBlock iv₀ first [] (z .one-iv .1) refl (z .one-iv .0 .long) refl (omega arith),
+  )
+
+  pub close-ten : (r : RunRecord) (tag : List ℕ) → r .first ≡ 0 → 0 < r .count → r .count ≤ limit → length tag ≡ 16
+      → (close c zeroBlock iv₀ r ≡ refused 10) × (test c zeroBlock iv₀ r tag ≡ refused 10)
+  close-ten r tag start some h t =
+      let w = is-whole r start (λ e. omega arith) in (
+        z .of-close zeroBlock iv₀ r (z .one-iv .1) refl (z .one-iv .0 .long) (omega arith) w,
+        z .of-test zeroBlock iv₀ r tag (z .one-iv .1) refl (z .one-iv .0 .long) t (omega arith) w,
+      )
+
+-- and so does every run on the rack
+pub run-ten : (c : Cipher) → ZeroMaskRack c → (s : Setting) → zeroMask c (s .key) (ivOf (s .work)) ≡ true → WellFormed s
+    → (i room : ℕ) → i < length (start s) → isRecorded (segment (start s) i) ≡ false → Refuses (runOutcome (callsOf c) s (start s) i room) 10 (roomOf (s .work) room)
+unfolding EachCall Allowed RunRefused
+run-ten c rack s z wf i room h e = (rack s z wf (runAt i room ∷ []) ((h, e), tt)) .0 .0
+
+-- under every other pair each call comes to what it came to before, by its rows as they stood
+module _ (c : Cipher) (b : AsBefore c) (key iv : List ℕ) where
+  pub seal-before : (message : List ℕ) (room : ℕ) → zeroMask c key iv ≡ false
+      → let s = sealedRecord c key iv message in
+      seal c key iv message room
+      ≡ outcomeBy (decide ((1, not16 key) ∷ (2, not16 iv) ∷ (3, tooLong message) ∷ (5, tooShort room (length s)) ∷ []) s) s room
+  unfolding without
+  seal-before message room z = b .of-seal key iv message room z
+
+  pub open-before : (sealed : List ℕ) (room : ℕ) → zeroMask c key (ivPart sealed) ≡ false
+      → let message = orEmpty (unpadded (plaintextOf c key sealed)) in
+      openSealed c key sealed room
+      ≡ outcomeBy
+      (decide
+      ((1, not16 key)
       ∷ (3, notSealed sealed)
       ∷ (5, tooShort room (length (cipherPart sealed)))
       ∷ (6, not (same (unbrokenTag c ciphertext key (ivPart sealed) (blocksOf (cipherPart sealed))) (tagPart sealed)))
       ∷ (7, notPadded (unpadded (plaintextOf c key sealed)))
-      ∷ []
+      ∷ [])
+      message) message room
   unfolding without openRows
-  open-before sealed room = refl
+  open-before sealed room z = b .of-open key sealed room z
 
-  pub seal-run-before : (first : ℕ) (kind : Kind) (bytes : List ℕ) (room : ℕ)
-      → without 10 (sealRunRows c key iv first kind bytes room)
-      ≡ (1, not16 key)
+  pub seal-run-before : (first : ℕ) (kind : Kind) (bytes : List ℕ) (room : ℕ) → zeroMask c key iv ≡ false
+      → let blocks = blocksOfRun kind bytes in
+      sealRun c key iv first kind bytes room
+      ≡ outcomeBy
+      (decide
+      ((1, not16 key)
       ∷ (2, not16 iv)
       ∷ (3, unalignedRun kind bytes)
-      ∷ (4, beyond first (length (blocksOfRun kind bytes)))
-      ∷ (5, tooShort room (16 * length (blocksOfRun kind bytes)))
-      ∷ []
+      ∷ (4, beyond first (length blocks))
+      ∷ (5, tooShort room (16 * length blocks))
+      ∷ [])
+      (runRecord c plaintext key iv first blocks)) ((passFrom c plaintext key iv first blocks) .output) room
   unfolding without
-  seal-run-before first kind bytes room = refl
+  seal-run-before first kind bytes room z = b .of-seal-run key iv first kind bytes room z
 
-  pub check-run-before : (first : ℕ) (bytes : List ℕ)
-      → without 10 (checkRunRows c key iv first bytes)
-      ≡ (1, not16 key) ∷ (2, not16 iv) ∷ (3, unaligned bytes) ∷ (4, beyond first (length (blocksOf bytes))) ∷ []
+  pub check-run-before : (first : ℕ) (bytes : List ℕ) → zeroMask c key iv ≡ false
+      → checkRun c key iv first bytes
+      ≡ decide ((1, not16 key) ∷ (2, not16 iv) ∷ (3, unaligned bytes) ∷ (4, beyond first (length (blocksOf bytes))) ∷ [])
+      (runRecord c ciphertext key iv first (blocksOf bytes))
   unfolding without
-  check-run-before first bytes = refl
+  check-run-before first bytes z = b .of-check-run key iv first bytes z
 
-  pub close-before : (r : RunRecord)
-      → without 10 (closeRows c key iv r) ≡ (1, not16 key) ∷ (2, not16 iv) ∷ (4, beyond (r .first) (r .count)) ∷ (9, notWhole r) ∷ []
+  pub close-before : (r : RunRecord) → zeroMask c key iv ≡ false
+      → close c key iv r
+      ≡ decide ((1, not16 key) ∷ (2, not16 iv) ∷ (4, beyond (r .first) (r .count)) ∷ (9, notWhole r) ∷ []) (closingTag c key iv r)
   unfolding without
-  close-before r = refl
+  close-before r z = b .of-close key iv r z
 
-  pub test-before : (r : RunRecord) (tag : List ℕ)
-      → without 10 (testRows c key iv r tag)
-      ≡ (1, not16 key)
+  pub test-before : (r : RunRecord) (tag : List ℕ) → zeroMask c key iv ≡ false
+      → test c key iv r tag
+      ≡ decide
+      ((1, not16 key)
       ∷ (2, not16 iv)
       ∷ (3, not16 tag)
       ∷ (4, beyond (r .first) (r .count))
       ∷ (9, notWhole r)
       ∷ (6, not (same (closingTag c key iv r) tag))
-      ∷ []
+      ∷ [])
+      tt
   unfolding without
-  test-before r tag = refl
+  test-before r tag z = b .of-test key iv r tag z
 
 -- ---- the signed jump
 

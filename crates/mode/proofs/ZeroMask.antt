@@ -24,15 +24,16 @@ use Rattle.mode.proofs.Demand3.{same-true, same-self, start-inv, answer
 
 -- ---- which pairs
 
+-- step 1's sum, before its replacement
+abbrev sumOf : Cipher → List ℕ → List ℕ → List ℕ
+sumOf c key iv = xorBytes (encrypt c key (xorBytes iv key)) key
+
 -- a key that is not zero has no such IV
 pub key-not-zero : (c : Cipher) (key iv : List ℕ) → same key zeroBlock ≡ false → zeroMask c key iv ≡ false
 unfolding zeroMask startMask
-key-not-zero c key iv h = by (same sum zeroBlock) refl
+key-not-zero c key iv h = by (same (sumOf c key iv) zeroBlock) refl
   where
-    sum : List ℕ
-    sum = xorBytes (encrypt c key (xorBytes iv key)) key
-
-    by : (t : Bool) → same sum zeroBlock ≡ t → same (cond t key sum) zeroBlock ≡ false
+    by : (t : Bool) → same (sumOf c key iv) zeroBlock ≡ t → same (cond t key (sumOf c key iv)) zeroBlock ≡ false
     by true e = h
     by false e = e
 
@@ -41,8 +42,8 @@ module _ (c : Cipher) (laws : Lawful c) where
   unfolding encrypt
   encrypted-long key b hk hb = laws .secondHalf-long key (c .firstHalf key b) hk (laws .firstHalf-long key b hk hb)
 
-  -- step 1's sum under the zero key
-  sum-is : (key iv : List ℕ) → length key ≡ 16 → length iv ≡ 16 → key ≡ zeroBlock → xorBytes (encrypt c key (xorBytes iv key)) key ≡ encrypt c key iv
+  -- the sum under the zero key
+  sum-is : (key iv : List ℕ) → length key ≡ 16 → length iv ≡ 16 → key ≡ zeroBlock → sumOf c key iv ≡ encrypt c key iv
   sum-is key iv hk hi z =
       ap (λ (v : List ℕ). xorBytes (encrypt c key v) key) (ap (xorBytes iv) z ∙ xorBytes-zeros 16 iv hi)
       ∙ ap (xorBytes (encrypt c key iv)) z
@@ -53,7 +54,7 @@ module _ (c : Cipher) (laws : Lawful c) where
   exactly key iv hk hi = (λ e. to (same sum zeroBlock) refl e, λ h. from h)
     where
       sum : List ℕ
-      sum = xorBytes (encrypt c key (xorBytes iv key)) key
+      sum = sumOf c key iv
 
       to : (t : Bool) → same sum zeroBlock ≡ t → same (cond t key sum) zeroBlock ≡ true → (key ≡ zeroBlock) × (encrypt c key iv ≡ zeroBlock)
       to true s e =
