@@ -17,6 +17,7 @@ pub mod OverX
 pub mod JumpBy
 pub mod Sign
 pub mod Num
+pub mod Bridge
 pub mod Product
 pub mod Horner
 pub mod Spread

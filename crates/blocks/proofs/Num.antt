@@ -49,12 +49,12 @@ num-injective (x ∷ a) (y ∷ b) e ha hb h =
 pub same-block : {a b : List ℕ} → Block a → Block b → num a ≡ num b → a ≡ b
 same-block {a} {b} ha hb h = num-injective a b (ha .long ∙ sym (hb .long)) (ha .bytes) (hb .bytes) h
 
-length-lowBytes : (n v : ℕ) → length (lowBytes n v) ≡ n
+pub length-lowBytes : (n v : ℕ) → length (lowBytes n v) ≡ n
 unfolding lowBytes
 length-lowBytes zero v = refl
 length-lowBytes (suc n) v = ap suc (length-lowBytes n v)
 
-bytes-lowBytes : (n v : ℕ) → Bytes (lowBytes n v)
+pub bytes-lowBytes : (n v : ℕ) → Bytes (lowBytes n v)
 unfolding lowBytes
 bytes-lowBytes zero v i = lit< tt
 bytes-lowBytes (suc n) v zero = mod-lt (v / 2 ^ (n * 8)) (lit< tt)
@@ -63,7 +63,7 @@ bytes-lowBytes (suc n) v (suc i) = bytes-lowBytes n v i
 pub block-lowBytes : (v : ℕ) → Block (lowBytes 16 v)
 block-lowBytes v = record { long = length-lowBytes 16 v; bytes = bytes-lowBytes 16 v }
 
-num-low-bytes : (n v : ℕ) → num (lowBytes n v) ≡ v % 2 ^ (n * 8)
+pub num-low-bytes : (n v : ℕ) → num (lowBytes n v) ≡ v % 2 ^ (n * 8)
 unfolding num lowBytes
 num-low-bytes zero v = let e : 0 ≡ v % 1 = omega arith in e
 num-low-bytes (suc n) v =
