@@ -9,7 +9,7 @@ use Rattle.blocks.specs.Bytes.{zeros}
 use Rattle.mode.specs.declared.RunRecord.{RunRecord}
 use Rattle.mode.specs.Table.{Answer, refused, given, decide, firstRow}
 use Rattle.mode.specs.Calls.{Outcome, outcomeBy, number, orElse, writtenOf, runAnswerOf, recordAnswerOf, tagAnswerOf, refusedRecord, blank}
-use Rattle.mode.specs.Mode.{zeroBlock}
+use Rattle.mode.specs.Mode.{zeroBlock, inWords}
 use Rattle.mode.proofs.Rows.{numbered, first-refuses, first-passes, no-more-rows, outcome-refused, outcome-given}
 
 -- ---- rows that decide all
@@ -47,7 +47,7 @@ module _ {A : Type 0} (d : Answer A) (bytes : List ℕ) (room : ℕ) where
 
 -- ---- runs, records and tags
 
-pub refused-run : (d : Answer RunRecord) (bytes : List ℕ) (room n : ℕ) → d ≡ refused n → record { refusal = n; length = 0; run = blank } ≡ runAnswerOf (outcomeBy d bytes room)
+pub refused-run : (d : Answer RunRecord) (bytes : List ℕ) (room n : ℕ) → d ≡ refused n → record { refusal = n; length = 0; run = (blank inWords) } ≡ runAnswerOf (outcomeBy d bytes room)
 unfolding runAnswerOf number orElse
 refused-run d bytes room n e = sym (ap runAnswerOf (outcome-refused d bytes room n e))
 

@@ -7,15 +7,16 @@ use Prim.Native.Nat.{ℕ, zero, suc, _+_, _*_, _-_, _/_, _%_, _≤_, _<_}
 use native.Mathlib.Omega.{arith}
 use lib.ListN.{length, take, drop, getD, replicate, length-append, length-drop, take-append-drop}
 use lib.Seq.{length-take-le, take-all, take-at, drop-at, drop-drop, getD-append-seam, getD-append-add, take-append-seam}
-use lib.Dec.{lit<, ltb}
-use borrow.Author.Tests.{ltb-true, ltb-false}
+use lib.Dec.{lit<, ltb, eqb}
+use borrow.Author.Tests.{ltb-true, ltb-false, eqb-true, not-false}
 use Rattle.blocks.specs.Bytes.{Bytes, Block, firstBlocks, same, concat}
 use Rattle.blocks.proofs.Chunks.{bytes-append, bytes-take, bytes-drop}
 use Rattle.mode.specs.Mode.{blocksOf, padded, ivPart, cipherPart, tagPart}
-use Rattle.mode.specs.Calls.{unpadFrom}
+use Rattle.mode.specs.Table.{unaligned}
+use Rattle.mode.specs.Calls.{Kind, middle, last, blocksOfRun, unalignedRun, unpadFrom}
 use Rattle.mode.proofs.Laws.{AllLong}
 use Rattle.mode.proofs.Blocks.{blocksOf-append, length-padded}
-use Rattle.mode.proofs.Demand3.{same-true, same-self}
+use Rattle.mode.proofs.Same.{same-true, same-self}
 
 -- ---- bounds
 
@@ -51,6 +52,14 @@ pub all-blocks-long : (bs : List (List ℕ)) → AllBlocks bs → AllLong bs
 all-blocks-long [] h = tt
 all-blocks-long (b ∷ bs) h = (h .0 .long, all-blocks-long bs (h .1))
 
+pub all-blocks-left : (x y : List (List ℕ)) → AllBlocks (x ++ y) → AllBlocks x
+all-blocks-left [] y h = tt
+all-blocks-left (b ∷ x) y h = (h .0, all-blocks-left x y (h .1))
+
+pub all-blocks-right : (x y : List (List ℕ)) → AllBlocks (x ++ y) → AllBlocks y
+all-blocks-right [] y h = h
+all-blocks-right (b ∷ x) y h = all-blocks-right x y (h .1)
+
 pub bytes-concat : (bs : List (List ℕ)) → AllBlocks bs → Bytes (concat bs)
 unfolding concat
 bytes-concat [] h i = lit< tt
@@ -72,6 +81,11 @@ good-from (suc n) a e h = (
 pub good-blocks : (a : List ℕ) → length a % 16 ≡ 0 → Bytes a → AllBlocks (blocksOf a)
 unfolding blocksOf
 good-blocks a e h = good-from (length a / 16) a (omega arith) h
+
+pub run-blocks : (kind : Kind) (bytes : List ℕ) → Bytes bytes → unalignedRun kind bytes ≡ false → AllBlocks (blocksOfRun kind bytes)
+unfolding blocksOfRun unalignedRun unaligned
+run-blocks middle bytes h e = good-blocks bytes (eqb-true (length bytes % 16) 0 (not-false (eqb (length bytes % 16) 0) e)) h
+run-blocks last bytes h e = good-blocks (padded bytes) (ap (λ (k : ℕ). k % 16) (length-padded bytes) ∙ omega arith) (bytes-padded bytes h)
 
 concat-from : (n : ℕ) (a : List ℕ) → length a ≡ 16 * n → concat (firstBlocks n a) ≡ a
 unfolding firstBlocks concat

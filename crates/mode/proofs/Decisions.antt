@@ -7,7 +7,7 @@ use Prim.Native.Nat.{ℕ}
 use native.Mathlib.Omega.{arith}
 use lib.Dec.{T, ltb}
 use borrow.Author.Tests.{ltb-true}
-use Rattle.mode.specs.Mode.{Cipher}
+use Rattle.mode.specs.Mode.{Cipher, inWords}
 use Rattle.mode.specs.Table.{Answer, refused, given, decide, tableOrder, inOrder, NoneHolds, Decides}
 use Rattle.mode.specs.Calls.{Outcome, outcomeBy, seal, sealRows, openSealed, openRows, passFrom, runRecord, sealRun, sealRunRows, checkRun, checkRunRows, joined, joinTwo, joinTwoRows, joinList, joinListRows, closingTag, close, closeRows, test, testRows, jumpMask, jumpRows}
 use Rattle.mode.specs.Demands.{Gives, Refuses, Answered, AnsweredInto, Demand1, Decided, DecidedInto, Demand2c}
@@ -108,10 +108,10 @@ demand1 c =
       of-open = λ key sealed room. answered-into (openRows c key sealed room) _ _ room tt;
       of-seal-run = λ key iv first kind bytes room. answered-into (sealRunRows c key iv first kind bytes room) _ _ room tt;
       of-check-run = λ key iv first bytes. answered (checkRunRows c key iv first bytes) _ tt;
-      of-join = λ l r. answered (joinTwoRows l r) _ tt;
-      of-join-list = λ rs. answered (joinListRows rs) _ tt;
-      of-close = λ key iv r. answered (closeRows c key iv r) _ tt;
-      of-test = λ key iv r tag. answered (testRows c key iv r tag) tt tt;
+      of-join = λ l r. answered (joinTwoRows inWords l r) _ tt;
+      of-join-list = λ rs. answered (joinListRows inWords rs) _ tt;
+      of-close = λ key iv r. answered (closeRows inWords c key iv r) _ tt;
+      of-test = λ key iv r tag. answered (testRows inWords c key iv r tag) tt tt;
       of-jump = λ mask distance room. answered-into (jumpRows mask distance room) _ _ room tt;
     }
 
@@ -142,9 +142,9 @@ demand2c c =
       of-open = λ key sealed room. decided-into (openRows c key sealed room) _ _ room refl;
       of-seal-run = λ key iv first kind bytes room. decided-into (sealRunRows c key iv first kind bytes room) _ _ room refl;
       of-check-run = λ key iv first bytes. decided (checkRunRows c key iv first bytes) _ refl;
-      of-join = λ l r. decided (joinTwoRows l r) _ refl;
-      of-join-list = λ rs. decided (joinListRows rs) _ refl;
-      of-close = λ key iv r. decided (closeRows c key iv r) _ refl;
-      of-test = λ key iv r tag. decided (testRows c key iv r tag) tt refl;
+      of-join = λ l r. decided (joinTwoRows inWords l r) _ refl;
+      of-join-list = λ rs. decided (joinListRows inWords rs) _ refl;
+      of-close = λ key iv r. decided (closeRows inWords c key iv r) _ refl;
+      of-test = λ key iv r tag. decided (testRows inWords c key iv r tag) tt refl;
       of-jump = λ mask distance room. decided-into (jumpRows mask distance room) _ _ room refl;
     }

@@ -14,7 +14,7 @@ use borrow.Author.Tests.{eqb-true, eq-eqb, ltb-false, le-ltb, not-false}
 use Rattle.blocks.specs.Bytes.{xorBytes, Bytes, Block, same, concat}
 use Rattle.blocks.specs.Gf128.{timesX, jump}
 use Rattle.blocks.proofs.Chunks.{bytes-take, bytes-drop}
-use Rattle.blocks.proofs.XorBytes.{bytes-xor, xorBytes-cancel}
+use Rattle.blocks.proofs.XorBytes.{block-xor, xorBytes-cancel}
 use Rattle.blocks.proofs.TimesX.{length-jump, block-timesX}
 use Rattle.mode.specs.Mode.{Cipher, Lawful, plaintext, ciphertext, zeroBlock, encrypt, startMask, middletext, written, pass, unbroken, tagFrom, unbrokenTag, blocksOf, padded, ivPart, cipherPart, tagPart, sealedRecord, UnbrokenCheck}
 use Rattle.mode.specs.Table.{Answer, refused, given, decide, NoneHolds, unaligned, tooLong, notSealed, zeroMask, longestMessage, longestSealed}
@@ -27,7 +27,9 @@ use Rattle.mode.proofs.Laws.{xor-long, pass-mask, preauthenticator-long
 use Rattle.mode.proofs.Blocks.{length-padded, count-middle}
 use Rattle.mode.proofs.Runs.{is16}
 use Rattle.mode.proofs.Segments.{not-both}
-use Rattle.mode.proofs.Demand3.{same-true, same-self, cipher-length}
+use Rattle.mode.proofs.Same.{same-true, same-self}
+use Rattle.mode.proofs.Demand3.{cipher-length}
+use Rattle.mode.proofs.Halves.{first-block, second-block, first-back, second-back, start-block}
 use Rattle.mode.proofs.Bytes.{bytes-left, bytes-padded, AllBlocks, all-blocks-long, bytes-concat, length-concat, good-blocks, concat-blocks, blocks-concat, parts-of, parts-whole, unpad-sound, unpad-complete}
 
 -- ---- blocks sealed and opened
@@ -47,22 +49,6 @@ module _ (c : Cipher) (laws : Lawful c) (key : List ℕ) (kb : Block key) where
   openedBlocks [] mask = []
   openedBlocks (b ∷ bs) mask = plainBlock mask b ∷ openedBlocks bs (timesX mask)
 
-  add : (a b : List ℕ) → Block a → Block b → Block (xorBytes a b)
-  add a b ha hb =
-      record { long = xor-long a b (ha .long) (hb .long); bytes = bytes-xor a b (ha .long ∙ sym (hb .long)) (ha .bytes) (hb .bytes) }
-
-  first-block : (b : List ℕ) → Block b → Block (c .firstHalf key b)
-  first-block b h = record { long = laws .firstHalf-long key b (kb .long) (h .long); bytes = laws .firstHalf-bytes key b kb h }
-
-  second-block : (b : List ℕ) → Block b → Block (c .secondHalf key b)
-  second-block b h = record { long = laws .secondHalf-long key b (kb .long) (h .long); bytes = laws .secondHalf-bytes key b kb h }
-
-  first-back : (b : List ℕ) → Block b → Block (c .firstHalfBack key b)
-  first-back b h = record { long = laws .firstHalfBack-long key b (kb .long) (h .long); bytes = laws .firstHalfBack-bytes key b kb h }
-
-  second-back : (b : List ℕ) → Block b → Block (c .secondHalfBack key b)
-  second-back b h = record { long = laws .secondHalfBack-long key b (kb .long) (h .long); bytes = laws .secondHalfBack-bytes key b kb h }
-
   cancel : (a k : List ℕ) → Block a → Block k → xorBytes (xorBytes a k) k ≡ a
   cancel a k ha hk = xorBytes-cancel a k (ha .long ∙ sym (hk .long))
 
@@ -70,34 +56,34 @@ module _ (c : Cipher) (laws : Lawful c) (key : List ℕ) (kb : Block key) where
   middle-back : (mask b : List ℕ) → Block mask → Block b → c .secondHalfBack key (xorBytes (cipherBlock mask b) mask) ≡ c .firstHalf key (xorBytes b mask)
   unfolding cipherBlock
   middle-back mask b hm hb =
-      let t = first-block (xorBytes b mask) (add b mask hb hm) in
-      ap (c .secondHalfBack key) (cancel (c .secondHalf key (c .firstHalf key (xorBytes b mask))) mask (second-block (c .firstHalf key (xorBytes b mask)) t) hm)
+      let t = first-block c laws key kb (xorBytes b mask) (block-xor b mask hb hm) in
+      ap (c .secondHalfBack key) (cancel (c .secondHalf key (c .firstHalf key (xorBytes b mask))) mask (second-block c laws key kb (c .firstHalf key (xorBytes b mask)) t) hm)
       ∙ laws .secondHalf-undone key (c .firstHalf key (xorBytes b mask)) kb t
 
   plain-cipher : (mask b : List ℕ) → Block mask → Block b → plainBlock mask (cipherBlock mask b) ≡ b
   unfolding plainBlock
   plain-cipher mask b hm hb =
       ap (λ (t : List ℕ). xorBytes (c .firstHalfBack key t) mask) (middle-back mask b hm hb)
-      ∙ ap (λ (t : List ℕ). xorBytes t mask) (laws .firstHalf-undone key (xorBytes b mask) kb (add b mask hb hm))
+      ∙ ap (λ (t : List ℕ). xorBytes t mask) (laws .firstHalf-undone key (xorBytes b mask) kb (block-xor b mask hb hm))
       ∙ cancel b mask hb hm
 
   cipher-plain : (mask b : List ℕ) → Block mask → Block b → cipherBlock mask (plainBlock mask b) ≡ b
   unfolding plainBlock cipherBlock
   cipher-plain mask b hm hb =
-      let u = second-back (xorBytes b mask) (add b mask hb hm) in
-      let v = first-back (c .secondHalfBack key (xorBytes b mask)) u in
+      let u = second-back c laws key kb (xorBytes b mask) (block-xor b mask hb hm) in
+      let v = first-back c laws key kb (c .secondHalfBack key (xorBytes b mask)) u in
       ap (λ (t : List ℕ). xorBytes (c .secondHalf key (c .firstHalf key t)) mask)
       (cancel (c .firstHalfBack key (c .secondHalfBack key (xorBytes b mask))) mask v hm)
       ∙ ap (λ (t : List ℕ). xorBytes (c .secondHalf key t) mask) (laws .firstHalfBack-undone key (c .secondHalfBack key (xorBytes b mask)) kb u)
-      ∙ ap (λ (t : List ℕ). xorBytes t mask) (laws .secondHalfBack-undone key (xorBytes b mask) kb (add b mask hb hm))
+      ∙ ap (λ (t : List ℕ). xorBytes t mask) (laws .secondHalfBack-undone key (xorBytes b mask) kb (block-xor b mask hb hm))
       ∙ cancel b mask hb hm
 
   pub sealed-good : (bs : List (List ℕ)) (mask : List ℕ) → AllBlocks bs → Block mask → AllBlocks (sealedBlocks bs mask)
   unfolding sealedBlocks cipherBlock
   sealed-good [] mask h hm = tt
   sealed-good (b ∷ bs) mask h hm = (
-    add (c .secondHalf key (c .firstHalf key (xorBytes b mask))) mask
-        (second-block (c .firstHalf key (xorBytes b mask)) (first-block (xorBytes b mask) (add b mask (h .0) hm))) hm,
+    block-xor (c .secondHalf key (c .firstHalf key (xorBytes b mask))) mask
+        (second-block c laws key kb (c .firstHalf key (xorBytes b mask)) (first-block c laws key kb (xorBytes b mask) (block-xor b mask (h .0) hm))) hm,
     sealed-good bs (timesX mask) (h .1) (block-timesX mask (hm .long)),
   )
 
@@ -105,8 +91,8 @@ module _ (c : Cipher) (laws : Lawful c) (key : List ℕ) (kb : Block key) where
   unfolding openedBlocks plainBlock
   opened-good [] mask h hm = tt
   opened-good (b ∷ bs) mask h hm = (
-    add (c .firstHalfBack key (c .secondHalfBack key (xorBytes b mask))) mask
-        (first-back (c .secondHalfBack key (xorBytes b mask)) (second-back (xorBytes b mask) (add b mask (h .0) hm))) hm,
+    block-xor (c .firstHalfBack key (c .secondHalfBack key (xorBytes b mask))) mask
+        (first-back c laws key kb (c .secondHalfBack key (xorBytes b mask)) (second-back c laws key kb (xorBytes b mask) (block-xor b mask (h .0) hm))) hm,
     opened-good bs (timesX mask) (h .1) (block-timesX mask (hm .long)),
   )
 
@@ -153,22 +139,13 @@ module _ (c : Cipher) (laws : Lawful c) (key : List ℕ) (kb : Block key) where
       ∙ same-preauthenticator bs (timesX mask) (xorBytes (timesX p) (c .firstHalf key (xorBytes b mask))) (h .1) (block-timesX mask (hm .long))
 
   module _ (iv : List ℕ) (ib : Block iv) where
-    pub start-block : Block (startMask c key iv)
-    unfolding startMask encrypt
-    start-block = by (same (xorBytes (encrypt c key (xorBytes iv key)) key) zeroBlock)
-      where
-        by : (z : Bool) → Block (cond z key (xorBytes (encrypt c key (xorBytes iv key)) key))
-        by true = kb
-        by false =
-            add (encrypt c key (xorBytes iv key)) key (second-block (c .firstHalf key (xorBytes iv key)) (first-block (xorBytes iv key) (add iv key ib kb))) kb
-
     abbrev mask0 : List ℕ
     mask0 = startMask c key iv
 
     same-tag : (bs : List (List ℕ)) → AllBlocks bs → unbrokenTag c ciphertext key iv (sealedBlocks bs mask0) ≡ unbrokenTag c plaintext key iv bs
     unfolding unbrokenTag unbroken
     same-tag bs h =
-        ap₂ (tagFrom c key) (same-preauthenticator bs mask0 zeroBlock h start-block)
+        ap₂ (tagFrom c key) (same-preauthenticator bs mask0 zeroBlock h (start-block c laws key kb iv ib))
         (pass-mask c laws ciphertext key (kb .long) (sealedBlocks bs mask0) mask0 zeroBlock
         ∙ ap (λ (n : ℕ). jump n mask0) (length-sealed bs mask0)
         ∙ sym (pass-mask c laws plaintext key (kb .long) bs mask0 zeroBlock))
@@ -176,8 +153,8 @@ module _ (c : Cipher) (laws : Lawful c) (key : List ℕ) (kb : Block key) where
     tag-long : (bs : List (List ℕ)) → AllBlocks bs → length (unbrokenTag c plaintext key iv bs) ≡ 16
     unfolding unbrokenTag unbroken tagFrom encrypt
     tag-long bs h =
-        let p : length ((pass c plaintext key bs mask0 zeroBlock) .preauthenticator) ≡ 16 = preauthenticator-long c laws plaintext key (kb .long) bs mask0 zeroBlock (all-blocks-long bs h) (start-block .long) refl in
-        let m : length ((pass c plaintext key bs mask0 zeroBlock) .mask) ≡ 16 = rw (pass-mask c laws plaintext key (kb .long) bs mask0 zeroBlock) (length-jump (length bs) mask0 (start-block .long)) in
+        let p : length ((pass c plaintext key bs mask0 zeroBlock) .preauthenticator) ≡ 16 = preauthenticator-long c laws plaintext key (kb .long) bs mask0 zeroBlock (all-blocks-long bs h) (start-block c laws key kb iv ib .long) refl in
+        let m : length ((pass c plaintext key bs mask0 zeroBlock) .mask) ≡ 16 = rw (pass-mask c laws plaintext key (kb .long) bs mask0 zeroBlock) (length-jump (length bs) mask0 (start-block c laws key kb iv ib .long)) in
         xor-long (encrypt c key (xorBytes ((pass c plaintext key bs mask0 zeroBlock) .preauthenticator) ((pass c plaintext key bs mask0 zeroBlock) .mask))) ((pass c plaintext key bs mask0 zeroBlock) .preauthenticator)
         (laws .secondHalf-long key (c .firstHalf key (xorBytes ((pass c plaintext key bs mask0 zeroBlock) .preauthenticator) ((pass c plaintext key bs mask0 zeroBlock) .mask))) (kb .long)
         (laws .firstHalf-long key (xorBytes ((pass c plaintext key bs mask0 zeroBlock) .preauthenticator) ((pass c plaintext key bs mask0 zeroBlock) .mask)) (kb .long)

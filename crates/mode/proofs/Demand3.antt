@@ -10,14 +10,17 @@ use lib.ListN.{length, take, drop, set, replicate, length-append, length-drop}
 use lib.Seq.{split-at, set-split, take-append-seam, length-take-le}
 use lib.Dec.{eqb, leb}
 use borrow.Author.Tests.{eq-eqb, ne-eqb, eqb-true, le-leb, lt-leb}
-use Rattle.blocks.specs.Bytes.{same, concat}
-use Rattle.mode.specs.Mode.{Cipher, Lawful, RunRecord, pass, unbroken, unbrokenTag, tagFrom, recordOf, startMask, blocksOf, padded, zeroBlock, cipherPart, tagPart, UnbrokenCheck}
+use Rattle.blocks.specs.Bytes.{Bytes, Block, same, concat}
+use Rattle.mode.specs.Mode.{Cipher, Lawful, RunRecord, inWords, pass, unbroken, unbrokenTag, tagFrom, recordOf, startMask, blocksOf, padded, zeroBlock, cipherPart, tagPart, UnbrokenCheck}
 use Rattle.mode.specs.Table.{Answer, refused, given, decide, beyond, anyBeyond, apart, none, notWhole, zeroMask, limit}
 use Rattle.mode.specs.Calls.{Kind, middle, last, blocksOfRun, unalignedRun, Outcome, outcomeBy, joinedOnto, joinedAll, joinTwo, joinList, closingTag, close, test, callsOf}
 use Rattle.mode.specs.Parallel.{Work, sealing, checking, sourceOf, ivOf, textOf, lastKind, allBlocks, Fits, Cut, Setting, WellFormed, Run, runsFrom, Segment, pending, recorded, blocksOfRuns, runsIn, recordIn, bytesIn, isRecorded, runsOf, bytesOfSegments, blocksIn, noSegment, segment, Call, runAt, joinPair, joinMany, consecutive, AllRecorded, recordsAt, Allowed, mergeBy, recordBy, headOr, firstRun, empties, start, roomOf, outcomeOfRun, runOutcome, answerOf, after, afterAll, EachCall}
 use Rattle.mode.specs.Demands.{NonzeroMask, whole, wholeTag, recordOfSegments, ciphertextOfSegment, ExpectedOfRun, ExpectedOfJoin, Expected, TestedAs, Whole, Demand3}
 use Rattle.mode.proofs.Decisions.{outcome-gives, outcome-refuses}
-use Rattle.mode.proofs.Laws.{AllLong, all-left, all-right, mask-there}
+use Rattle.mode.proofs.Laws.{AllLong, mask-there}
+use Rattle.mode.proofs.Same.{same-true, same-self}
+use Rattle.mode.proofs.Bytes.{AllBlocks, all-blocks-long, all-blocks-left, all-blocks-right, good-blocks, run-blocks}
+use Rattle.mode.proofs.InWords.{record-bytes}
 use Rattle.mode.proofs.Blocks.{blocksOf-append, long-blocks, padded-append, count-middle, count-last, aligned, run-long}
 use Rattle.mode.proofs.Runs.{is16, within, iv-long, Suits, GoodRun, outputOf, recordFor, part, unbroken-output, run-outcome}
 use Rattle.mode.proofs.Segments.{blocksIn-cons, blocksIn-append, blocksIn-one, three, blocks-three, one-there, recorded-inside, Recs, window, SoundAt, Sound, sound-split, sound-join, sound-at, none-beyond, not-apart, joined-all, bytes-all}
@@ -28,12 +31,12 @@ pub cipher-length : (sealed : List ℕ) → 48 ≤ length sealed → length (cip
 unfolding cipherPart
 cipher-length sealed h = length-take-le (length sealed - 32) (drop 16 sealed) (rw (length-drop 16 sealed) (omega arith))
 
-all-long : (w : Work) → Fits w → AllLong (allBlocks w)
+good-work : (w : Work) → Fits w → Bytes (textOf w) → AllBlocks (allBlocks w)
 unfolding allBlocks lastKind textOf Fits blocksOfRun unalignedRun
-all-long (sealing iv message) h = run-long last message refl
-all-long (checking sealed) h =
-    let e : length (cipherPart sealed) % 16 ≡ 0 = ap (λ (n : ℕ). n % 16) (cipher-length sealed (h .0)) ∙ omega arith in
-    long-blocks (cipherPart sealed) e
+good-work (sealing iv message) f h = run-blocks last message h refl
+good-work (checking sealed) f h =
+    let e : length (cipherPart sealed) % 16 ≡ 0 = ap (λ (n : ℕ). n % 16) (cipher-length sealed (f .0)) ∙ omega arith in
+    good-blocks (cipherPart sealed) e h
 
 in-limit : (w : Work) → Fits w → length (allBlocks w) ≤ limit
 unfolding allBlocks lastKind textOf Fits blocksOfRun
@@ -123,28 +126,6 @@ pair-consecutive i j first (suc zero) e = ((cc), refl, (cc))
 pair-consecutive i j first (suc (suc k)) e =
     absurd (let z : _≡_ {A = ℕ} 2 (suc (suc (suc k))) = ap length e ∙ ap (λ (n : ℕ). suc (suc n)) (length-consecutive (suc (suc first)) (suc k)) in omega arith)
 
--- `same` tells equal lists
-pub same-true : (a b : List ℕ) → same a b ≡ true → a ≡ b
-unfolding same
-same-true [] [] e = refl
-same-true [] (y ∷ b) e = absurd (let z : _≡_ {A = ℕ} 0 1 = cc in omega arith)
-same-true (x ∷ a) [] e = absurd (let z : _≡_ {A = ℕ} 0 1 = cc in omega arith)
-same-true (x ∷ a) (y ∷ b) e =
-    ap₂ (λ (h : ℕ) (t : List ℕ). h ∷ t) (eqb-true x y (and-left (eqb x y) (same a b) e)) (same-true a b (and-right (eqb x y) (same a b) e))
-  where
-    and-left : (p q : Bool) → (p && q) ≡ true → p ≡ true
-    and-left true q e = refl
-    and-left false q e = e
-
-    and-right : (p q : Bool) → (p && q) ≡ true → q ≡ true
-    and-right true q e = e
-    and-right false q e = absurd (let z : _≡_ {A = ℕ} 0 1 = cc in omega arith)
-
-pub same-self : (a : List ℕ) → same a a ≡ true
-unfolding same
-same-self [] = refl
-same-self (x ∷ a) = rw (eq-eqb x x refl) (same-self a)
-
 -- a row that is not met is passed over; the last one decides
 last-row : (t : Bool) (n : ℕ) → (decide {A = Unit {0}} ((n, not t) ∷ []) tt ≡ given tt) ↔ (t ≡ true)
 unfolding decide
@@ -171,9 +152,18 @@ module _ (c : Cipher) (laws : Lawful c) (s : Setting) (wf : WellFormed s) where
         blocks-are = (unfold blocksIn allBlocks in (start-blocks (lastKind w) 0 (s .pieces) (wf .cut) ∙ ap (blocksOfRun (lastKind w)) (wf .pieces-are)));
       }
 
+  key-block : Block (s .key)
+  key-block = record { long = wf .key-long; bytes = wf .key-bytes }
+
+  iv-block : Block (ivOf (s .work))
+  iv-block = record { long = iv-long (s .work) (wf .fits); bytes = wf .iv-bytes }
+
+  all-good : AllBlocks (allBlocks (s .work))
+  all-good = good-work (s .work) (wf .fits) (wf .text-bytes)
+
   module _ (xs : List Segment) (inv : Inv c s xs) where
-    blocks-long : AllLong (blocksIn xs)
-    blocks-long = subst AllLong (sym (inv .blocks-are)) (all-long w (wf .fits))
+    blocks-good : AllBlocks (blocksIn xs)
+    blocks-good = subst AllBlocks (sym (inv .blocks-are)) all-good
 
     blocks-fit : length (blocksIn xs) ≤ limit
     blocks-fit = rw (inv .blocks-are) (in-limit w (wf .fits))
@@ -188,7 +178,7 @@ module _ (c : Cipher) (laws : Lawful c) (s : Setting) (wf : WellFormed s) where
         take (16 * length (blocksIn (take 1 (drop i xs)))) (drop (16 * length (blocksIn (take i xs))) ((unbroken c (sourceOf w) key (ivOf w) bs) .output))
         ≡ outputOf c key w (blocksIn (take i xs)) (blocksIn (take 1 (drop i xs)))) e
         (part c laws key (wf .key-long) w (wf .fits) (blocksIn (take i xs)) (blocksIn (take 1 (drop i xs))) (blocksIn (drop 1 (drop i xs)))
-        (subst AllLong (sym e) (all-long w (wf .fits))))
+        (subst AllLong (sym e) (all-blocks-long (allBlocks w) all-good)))
 
     blocks-one : (i : ℕ) → i < length xs → blocksIn (take 1 (drop i xs)) ≡ blocksOfRuns (runsIn (segment xs i))
     blocks-one i h = ap blocksIn (one-there xs i h) ∙ blocksIn-one (segment xs i)
@@ -295,14 +285,14 @@ module _ (c : Cipher) (laws : Lawful c) (s : Setting) (wf : WellFormed s) where
 
     -- neighbours: none beyond the limit, not apart, and joined they are the record of all their blocks
     neighbours : (i k : ℕ) → AllRecorded xs (consecutive i (suc k))
-        → (anyBeyond (recordsAt xs (consecutive i (suc k))) ≡ false) × (apart (recordsAt xs (consecutive i (suc k))) ≡ false)
-        × (joinedAll (recordsAt xs (consecutive i (suc k))) ≡ recordOfSegments c s xs i (suc k))
+        → (anyBeyond inWords (recordsAt xs (consecutive i (suc k))) ≡ false) × (apart inWords (recordsAt xs (consecutive i (suc k))) ≡ false)
+        × (joinedAll inWords (recordsAt xs (consecutive i (suc k))) ≡ recordOfSegments c s xs i (suc k))
     unfolding recordOfSegments
     neighbours i k h = (
       none-beyond c key w xs (consecutive i (suc k)) (inv .sound) blocks-fit h,
-      ap apart (win .0) ∙ not-apart c key w (blocksIn (take i xs)) these these-sound (win .1),
-      ap joinedAll (win .0)
-          ∙ joined-all c laws key (wf .key-long) w (wf .fits) (blocksIn (take i xs)) these (rw (win .2) (omega arith)) these-sound (win .1) these-long,
+      ap (apart inWords) (win .0) ∙ not-apart c key w (blocksIn (take i xs)) these these-sound (win .1),
+      ap (joinedAll inWords) (win .0)
+          ∙ joined-all c laws key key-block w iv-block (wf .fits) (blocksIn (take i xs)) these (rw (win .2) (omega arith)) these-sound (win .1) these-good,
     )
       where
         these : List Segment
@@ -316,11 +306,11 @@ module _ (c : Cipher) (laws : Lawful c) (s : Setting) (wf : WellFormed s) where
             (sound-split c key w (blocksIn (take i xs)) (take (suc k) (drop i xs)) (drop (suc k) (drop i xs))
             ((sound-split c key w [] (take i xs) (take (suc k) (drop i xs) ++ drop (suc k) (drop i xs)) (subst (Sound c key w []) (sym (three xs i (suc k))) (inv .sound))) .1)) .0
 
-        these-long : AllLong (blocksIn (take (suc k) (drop i xs)))
-        these-long =
-            all-left (blocksIn (take (suc k) (drop i xs))) (blocksIn (drop (suc k) (drop i xs)))
-            (all-right (blocksIn (take i xs)) (blocksIn (take (suc k) (drop i xs)) ++ blocksIn (drop (suc k) (drop i xs)))
-            (subst AllLong (sym (blocks-three xs i (suc k))) blocks-long))
+        these-good : AllBlocks (blocksIn (take (suc k) (drop i xs)))
+        these-good =
+            all-blocks-left (blocksIn (take (suc k) (drop i xs))) (blocksIn (drop (suc k) (drop i xs)))
+            (all-blocks-right (blocksIn (take i xs)) (blocksIn (take (suc k) (drop i xs)) ++ blocksIn (drop (suc k) (drop i xs)))
+            (subst AllBlocks (sym (blocks-three xs i (suc k))) blocks-good))
 
     merge-inv : (i k : ℕ) (a : Answer RunRecord) → AllRecorded xs (consecutive i (suc k)) → a ≡ given (recordOfSegments c s xs i (suc k)) → Inv c s (mergeBy a xs i (suc k))
     unfolding mergeBy runsIn blocksIn recordOfSegments
@@ -348,49 +338,49 @@ module _ (c : Cipher) (laws : Lawful c) (s : Setting) (wf : WellFormed s) where
 
         new-sound : SoundAt c key w (blocksIn (take i xs)) new
         new-sound =
-            (refl, bytes-all c laws key (wf .key-long) w (wf .fits) (blocksIn (take i xs)) (take (suc k) (drop i xs)) (inner .0) ((window xs i (suc k) h) .1))
+            (refl, bytes-all c laws key key-block w iv-block (wf .fits) (blocksIn (take i xs)) (take (suc k) (drop i xs)) (inner .0) ((window xs i (suc k) h) .1))
 
         new-rest : Sound c key w (blocksIn (take i xs) ++ blocksOfRuns (runsIn new)) rest
         new-rest = inner .1
 
     -- a join of two
-    pair-neighbours : (i j : ℕ) → AllRecorded xs (i ∷ j ∷ []) → j ≡ suc i → joinTwo (recordIn (segment xs i)) (recordIn (segment xs j)) ≡ given (recordOfSegments c s xs i 2)
+    pair-neighbours : (i j : ℕ) → AllRecorded xs (i ∷ j ∷ []) → j ≡ suc i → joinTwo inWords (recordIn (segment xs i)) (recordIn (segment xs j)) ≡ given (recordOfSegments c s xs i 2)
     unfolding joinTwo decide consecutive joinedAll joinedOnto
     pair-neighbours i j h e =
-        subst (λ (j : ℕ). AllRecorded xs (i ∷ j ∷ []) → joinTwo (recordIn (segment xs i)) (recordIn (segment xs j)) ≡ given (recordOfSegments c s xs i 2)) (sym e)
+        subst (λ (j : ℕ). AllRecorded xs (i ∷ j ∷ []) → joinTwo inWords (recordIn (segment xs i)) (recordIn (segment xs j)) ≡ given (recordOfSegments c s xs i 2)) (sym e)
         (λ h. let n = neighbours i 1 h in
-        let b : anyBeyond (recordsAt xs (i ∷ suc i ∷ [])) ≡ false = n .0 in
-        let a : apart (recordsAt xs (i ∷ suc i ∷ [])) ≡ false = n .1 in
+        let b : anyBeyond inWords (recordsAt xs (i ∷ suc i ∷ [])) ≡ false = n .0 in
+        let a : apart inWords (recordsAt xs (i ∷ suc i ∷ [])) ≡ false = n .1 in
         rw (b, a) (ap (λ (r : RunRecord). given r) (n .2))) h
 
-    pair-apart : (i j : ℕ) → AllRecorded xs (i ∷ j ∷ []) → apart (recordsAt xs (i ∷ j ∷ [])) ≡ true
-        → joinTwo (recordIn (segment xs i)) (recordIn (segment xs j)) ≡ refused 8
+    pair-apart : (i j : ℕ) → AllRecorded xs (i ∷ j ∷ []) → apart inWords (recordsAt xs (i ∷ j ∷ [])) ≡ true
+        → joinTwo inWords (recordIn (segment xs i)) (recordIn (segment xs j)) ≡ refused 8
     unfolding joinTwo decide
     pair-apart i j h e = rw (none-beyond c key w xs (i ∷ j ∷ []) (inv .sound) blocks-fit h, e)
 
-    pair-expected : (i j : ℕ) → AllRecorded xs (i ∷ j ∷ []) → ExpectedOfJoin c (callsOf c) s xs (i ∷ j ∷ []) (joinTwo (recordIn (segment xs i)) (recordIn (segment xs j)))
+    pair-expected : (i j : ℕ) → AllRecorded xs (i ∷ j ∷ []) → ExpectedOfJoin c (callsOf c) s xs (i ∷ j ∷ []) (joinTwo inWords (recordIn (segment xs i)) (recordIn (segment xs j)))
     pair-expected i j h =
         record {
           neighbours = λ first k e.
               let p = pair-consecutive i j first k e in
-              subst (λ (n : ℕ). joinTwo (recordIn (segment xs i)) (recordIn (segment xs j)) ≡ given (recordOfSegments c s xs n (suc k))) (p .0)
-              (subst (λ (n : ℕ). joinTwo (recordIn (segment xs i)) (recordIn (segment xs j)) ≡ given (recordOfSegments c s xs i (suc n))) (p .1) (pair-neighbours i j h (p .2)));
+              subst (λ (n : ℕ). joinTwo inWords (recordIn (segment xs i)) (recordIn (segment xs j)) ≡ given (recordOfSegments c s xs n (suc k))) (p .0)
+              (subst (λ (n : ℕ). joinTwo inWords (recordIn (segment xs i)) (recordIn (segment xs j)) ≡ given (recordOfSegments c s xs i (suc n))) (p .1) (pair-neighbours i j h (p .2)));
           empty = λ e. absurd (let z : _≡_ {A = ℕ} 0 1 = cc in omega arith);
           others = pair-apart i j h;
         }
 
     -- a join of a list
-    list-neighbours : (is : List ℕ) → AllRecorded xs is → (i k : ℕ) → is ≡ consecutive i (suc k) → joinList (recordsAt xs is) ≡ given (recordOfSegments c s xs i (suc k))
+    list-neighbours : (is : List ℕ) → AllRecorded xs is → (i k : ℕ) → is ≡ consecutive i (suc k) → joinList inWords (recordsAt xs is) ≡ given (recordOfSegments c s xs i (suc k))
     list-neighbours is h i k e =
-        subst (λ (is : List ℕ). AllRecorded xs is → joinList (recordsAt xs is) ≡ given (recordOfSegments c s xs i (suc k))) (sym e)
+        subst (λ (is : List ℕ). AllRecorded xs is → joinList inWords (recordsAt xs is) ≡ given (recordOfSegments c s xs i (suc k))) (sym e)
         (λ h. let n = neighbours i k h in
         unfold joinList decide in rw (n .0, n .1) (unfold none consecutive in (ap (λ (r : RunRecord). given r) (n .2)))) h
 
-    list-empty : (is : List ℕ) → is ≡ [] → joinList (recordsAt xs is) ≡ refused 9
+    list-empty : (is : List ℕ) → is ≡ [] → joinList inWords (recordsAt xs is) ≡ refused 9
     unfolding joinList decide anyBeyond apart none
     list-empty is e = rw e
 
-    list-apart : (is : List ℕ) → AllRecorded xs is → apart (recordsAt xs is) ≡ true → joinList (recordsAt xs is) ≡ refused 8
+    list-apart : (is : List ℕ) → AllRecorded xs is → apart inWords (recordsAt xs is) ≡ true → joinList inWords (recordsAt xs is) ≡ refused 8
     unfolding joinList decide
     list-apart is h e = rw (none-beyond c key w xs is (inv .sound) blocks-fit h, e)
 
@@ -406,28 +396,28 @@ module _ (c : Cipher) (laws : Lawful c) (s : Setting) (wf : WellFormed s) where
     )
     step nz (joinPair i j) m = (unfold Expected answerOf in pair-expected i j (m .0), by (m .1))
       where
-        by : (j ≡ suc i) ⊎ (apart (recordsAt xs (i ∷ j ∷ [])) ≡ true) → Inv c s (mergeBy (joinTwo (recordIn (segment xs i)) (recordIn (segment xs j))) xs i 2)
+        by : (j ≡ suc i) ⊎ (apart inWords (recordsAt xs (i ∷ j ∷ [])) ≡ true) → Inv c s (mergeBy (joinTwo inWords (recordIn (segment xs i)) (recordIn (segment xs j))) xs i 2)
         by (inl e) =
-            merge-inv i 1 (joinTwo (recordIn (segment xs i)) (recordIn (segment xs j)))
+            merge-inv i 1 (joinTwo inWords (recordIn (segment xs i)) (recordIn (segment xs j)))
             (unfold consecutive in (subst (λ (j : ℕ). AllRecorded xs (i ∷ j ∷ [])) e (m .0))) (pair-neighbours i j (m .0) e)
-        by (inr e) = refused-inv (joinTwo (recordIn (segment xs i)) (recordIn (segment xs j))) 8 i 2 (pair-apart i j (m .0) e)
+        by (inr e) = refused-inv (joinTwo inWords (recordIn (segment xs i)) (recordIn (segment xs j))) 8 i 2 (pair-apart i j (m .0) e)
     step nz (joinMany is) m = (
       unfold Expected answerOf in (record { neighbours = list-neighbours is (m .0); empty = list-empty is; others = list-apart is (m .0) }),
       by (m .1),
     )
       where
-        many : (i k : ℕ) → is ≡ consecutive i (suc k) → Inv c s (mergeBy (joinList (recordsAt xs is)) xs (headOr 0 is) (length is))
+        many : (i k : ℕ) → is ≡ consecutive i (suc k) → Inv c s (mergeBy (joinList inWords (recordsAt xs is)) xs (headOr 0 is) (length is))
         many i k e =
             let hd : headOr 0 is ≡ i = ap (headOr 0) e ∙ first-of i k in
-            subst (λ (n : ℕ). Inv c s (mergeBy (joinList (recordsAt xs is)) xs n (length is))) (sym hd)
-            (subst (λ (n : ℕ). Inv c s (mergeBy (joinList (recordsAt xs is)) xs i n)) (sym (ap length e ∙ length-consecutive i (suc k)))
-            (merge-inv i k (joinList (recordsAt xs is)) (subst (AllRecorded xs) e (m .0)) (list-neighbours is (m .0) i k e)))
+            subst (λ (n : ℕ). Inv c s (mergeBy (joinList inWords (recordsAt xs is)) xs n (length is))) (sym hd)
+            (subst (λ (n : ℕ). Inv c s (mergeBy (joinList inWords (recordsAt xs is)) xs i n)) (sym (ap length e ∙ length-consecutive i (suc k)))
+            (merge-inv i k (joinList inWords (recordsAt xs is)) (subst (AllRecorded xs) e (m .0)) (list-neighbours is (m .0) i k e)))
 
-        by : ((i : ℕ) × (k : ℕ) × (is ≡ consecutive i (suc k))) ⊎ ((is ≡ []) ⊎ (apart (recordsAt xs is) ≡ true))
-            → Inv c s (mergeBy (joinList (recordsAt xs is)) xs (headOr 0 is) (length is))
+        by : ((i : ℕ) × (k : ℕ) × (is ≡ consecutive i (suc k))) ⊎ ((is ≡ []) ⊎ (apart inWords (recordsAt xs is) ≡ true))
+            → Inv c s (mergeBy (joinList inWords (recordsAt xs is)) xs (headOr 0 is) (length is))
         by (inl n) = many (n .0) (n .1) (n .2)
-        by (inr (inl e)) = refused-inv (joinList (recordsAt xs is)) 9 (headOr 0 is) (length is) (list-empty is e)
-        by (inr (inr e)) = refused-inv (joinList (recordsAt xs is)) 8 (headOr 0 is) (length is) (list-apart is (m .0) e)
+        by (inr (inl e)) = refused-inv (joinList inWords (recordsAt xs is)) 9 (headOr 0 is) (length is) (list-empty is e)
+        by (inr (inr e)) = refused-inv (joinList inWords (recordsAt xs is)) 8 (headOr 0 is) (length is) (list-apart is (m .0) e)
 
   -- any list of calls
   steps : NonzeroMask c key (ivOf w) → (xs : List Segment) (calls : List Call) → Inv c s xs → EachCall (callsOf c) s Allowed xs calls
@@ -456,13 +446,13 @@ module _ (c : Cipher) (laws : Lawful c) (s : Setting) (wf : WellFormed s) where
       by before (recorded rs r bytes) e h = unfold recordIn bytesIn runsIn in h
 
   -- the whole record closes into the unbroken tag
-  closing : closingTag c key (ivOf w) (recordFor c key w [] (allBlocks w)) ≡ wholeTag c s
+  closing : closingTag inWords c key (ivOf w) (recordFor c key w [] (allBlocks w)) ≡ wholeTag c s
   unfolding closingTag wholeTag unbrokenTag recordOf unbroken pass
   closing =
-      ap (tagFrom c key ((pass c (sourceOf w) key (allBlocks w) (startMask c key (ivOf w)) zeroBlock) .preauthenticator))
+      ap₂ (tagFrom c key) (record-bytes c laws (sourceOf w) key key-block (ivOf w) iv-block [] (allBlocks w) all-good)
       (sym (unfold unbroken in (mask-there c laws (sourceOf w) key (wf .key-long) (ivOf w) (iv-long w (wf .fits)) (allBlocks w))))
 
-  not-part : notWhole (recordFor c key w [] (allBlocks w)) ≡ false
+  not-part : notWhole inWords (recordFor c key w [] (allBlocks w)) ≡ false
   unfolding notWhole recordOf
   not-part = ne-eqb (length (allBlocks w)) 0 (λ e. let h : 0 < length (allBlocks w) = some-block w (wf .fits) in omega arith)
 
@@ -470,21 +460,21 @@ module _ (c : Cipher) (laws : Lawful c) (s : Setting) (wf : WellFormed s) where
   unfolding recordOf
   not-beyond = within 0 (length (allBlocks w)) (let h : length (allBlocks w) ≤ limit = in-limit w (wf .fits) in omega arith)
 
-  closed : NonzeroMask c key (ivOf w) → close c key (ivOf w) (recordFor c key w [] (allBlocks w)) ≡ given (wholeTag c s)
+  closed : NonzeroMask c key (ivOf w) → close inWords c key (ivOf w) (recordFor c key w [] (allBlocks w)) ≡ given (wholeTag c s)
   unfolding close decide
   closed nz =
       rw (is16 key (wf .key-long), is16 (ivOf w) (iv-long w (wf .fits)), not-beyond, not-part, nz) (ap (λ (t : List ℕ). given t) closing)
 
   -- a tag of 16 bytes passes exactly when it is the unbroken one
-  tested : NonzeroMask c key (ivOf w) → (tag : List ℕ) → length tag ≡ 16 → (test c key (ivOf w) (recordFor c key w [] (allBlocks w)) tag ≡ given tt) ↔ (wholeTag c s ≡ tag)
+  tested : NonzeroMask c key (ivOf w) → (tag : List ℕ) → length tag ≡ 16 → (test inWords c key (ivOf w) (recordFor c key w [] (allBlocks w)) tag ≡ given tt) ↔ (wholeTag c s ≡ tag)
   tested nz tag h = (
-    λ e. sym closing ∙ same-true (closingTag c key (ivOf w) (recordFor c key w [] (allBlocks w))) tag ((last-row (same (closingTag c key (ivOf w) (recordFor c key w [] (allBlocks w))) tag) 6) .0 (sym rows ∙ e)),
-    λ e. rows ∙ (last-row (same (closingTag c key (ivOf w) (recordFor c key w [] (allBlocks w))) tag) 6) .1
-        (subst (λ (t : List ℕ). same (closingTag c key (ivOf w) (recordFor c key w [] (allBlocks w))) t ≡ true) (closing ∙ e) (same-self (closingTag c key (ivOf w) (recordFor c key w [] (allBlocks w))))),
+    λ e. sym closing ∙ same-true (closingTag inWords c key (ivOf w) (recordFor c key w [] (allBlocks w))) tag ((last-row (same (closingTag inWords c key (ivOf w) (recordFor c key w [] (allBlocks w))) tag) 6) .0 (sym rows ∙ e)),
+    λ e. rows ∙ (last-row (same (closingTag inWords c key (ivOf w) (recordFor c key w [] (allBlocks w))) tag) 6) .1
+        (subst (λ (t : List ℕ). same (closingTag inWords c key (ivOf w) (recordFor c key w [] (allBlocks w))) t ≡ true) (closing ∙ e) (same-self (closingTag inWords c key (ivOf w) (recordFor c key w [] (allBlocks w))))),
   )
     where
-      rows : test c key (ivOf w) (recordFor c key w [] (allBlocks w)) tag
-          ≡ decide ((6, not (same (closingTag c key (ivOf w) (recordFor c key w [] (allBlocks w))) tag)) ∷ []) tt
+      rows : test inWords c key (ivOf w) (recordFor c key w [] (allBlocks w)) tag
+          ≡ decide ((6, not (same (closingTag inWords c key (ivOf w) (recordFor c key w [] (allBlocks w))) tag)) ∷ []) tt
       rows =
           unfold test decide in
           rw (is16 key (wf .key-long), is16 (ivOf w) (iv-long w (wf .fits)), is16 tag h, not-beyond, not-part, nz)
@@ -494,7 +484,7 @@ module _ (c : Cipher) (laws : Lawful c) (s : Setting) (wf : WellFormed s) where
   tag-long sealed h = length-drop (length sealed - 16) sealed ∙ omega arith
 
   tested-as : (v : Work) → Fits v → (r : RunRecord)
-      → ((tag : List ℕ) → length tag ≡ 16 → (test c key (ivOf v) r tag ≡ given tt) ↔ (unbrokenTag c (sourceOf v) key (ivOf v) (allBlocks v) ≡ tag))
+      → ((tag : List ℕ) → length tag ≡ 16 → (test inWords c key (ivOf v) r tag ≡ given tt) ↔ (unbrokenTag c (sourceOf v) key (ivOf v) (allBlocks v) ≡ tag))
       → TestedAs c (callsOf c) key v r
   unfolding TestedAs ivOf sourceOf allBlocks lastKind textOf blocksOfRun UnbrokenCheck
   tested-as (sealing iv message) fit r h = h

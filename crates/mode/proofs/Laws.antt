@@ -1,4 +1,4 @@
--- Laws of step 2 over any blocks, and of records: the record of adjoining blocks is the join of their records.
+-- Laws of step 2 over any blocks: the pre-authenticator of adjoining blocks is the join of theirs.
 use mathlib.Core.Path.{_≡_, refl, sym, ap, ap₂, _∙_}
 use mathlib.Core.List.{List, [], _∷_, _++_, append-assoc}
 use mathlib.Core.Bool.{Bool, true, false, cond}
@@ -10,11 +10,7 @@ use Rattle.blocks.specs.Gf128.{timesX, jump, carry, shiftLeft, reduction}
 use Rattle.blocks.proofs.XorBytes.{xorBytes-zeros, xorBytes-comm, xorBytes-assoc, length-xor}
 use Rattle.blocks.proofs.TimesX.{length-timesX, length-jump, jump-xor, jump-add}
 use Rattle.blocks.specs.Bytes.{same}
-use Rattle.mode.specs.Mode.{Cipher, Lawful, Source, plaintext, ciphertext, RunRecord, zeroBlock, encrypt, startMask, middletext, written, pass, unbroken, recordOf}
-use Rattle.mode.specs.Calls.{joined}
-
-pub same-record : (a b : RunRecord) → a .first ≡ b .first → a .count ≡ b .count → a .preauthenticator ≡ b .preauthenticator → a ≡ b
-same-record a b p q r = λ i. record { first = p i; count = q i; preauthenticator = r i }
+use Rattle.mode.specs.Mode.{Cipher, Lawful, Source, plaintext, ciphertext, zeroBlock, encrypt, startMask, middletext, written, pass, unbroken}
 
 abbrev pub AllLong : List (List ℕ) → Type 0
 AllLong [] = Unit {0}
@@ -140,17 +136,16 @@ module _ (c : Cipher) (laws : Lawful c) (s : Source) (key : List ℕ) (key-long 
     unfolding unbroken
     mask-there before = pass-mask before (startMask c key iv) zeroBlock
 
-    -- THE LAW: the record of adjoining blocks is the join of their records
-    pub record-append : (before x y : List (List ℕ)) → AllLong (x ++ y)
-        → recordOf c s key iv before (x ++ y) ≡ joined (recordOf c s key iv before x) (recordOf c s key iv (before ++ x) y)
-    unfolding recordOf joined
-    record-append before x y h =
-        same-record (recordOf c s key iv before (x ++ y)) (joined (recordOf c s key iv before x) (recordOf c s key iv (before ++ x) y))
-        refl (length-append x y)
-        (preauthenticator-append x y m zeroBlock
+    -- THE LAW: the pre-authenticator of adjoining blocks is the join of theirs
+    pub preauthenticator-joined : (before x y : List (List ℕ)) → AllLong (x ++ y)
+        → (pass c s key (x ++ y) ((unbroken c s key iv before) .mask) zeroBlock) .preauthenticator
+        ≡ xorBytes (jump (length y) ((pass c s key x ((unbroken c s key iv before) .mask) zeroBlock) .preauthenticator))
+        ((pass c s key y ((unbroken c s key iv (before ++ x)) .mask) zeroBlock) .preauthenticator)
+    preauthenticator-joined before x y h =
+        preauthenticator-append x y m zeroBlock
         ∙ preauthenticator-from y (jump (length x) m) ((pass c s key x m zeroBlock) .preauthenticator) (all-right x y h) (length-jump (length x) m m-long)
         (preauthenticator-long x m zeroBlock (all-left x y h) m-long refl)
-        ∙ ap (λ (k : List ℕ). xorBytes (jump (length y) ((pass c s key x m zeroBlock) .preauthenticator)) ((pass c s key y k zeroBlock) .preauthenticator)) same-mask)
+        ∙ ap (λ (k : List ℕ). xorBytes (jump (length y) ((pass c s key x m zeroBlock) .preauthenticator)) ((pass c s key y k zeroBlock) .preauthenticator)) same-mask
       where
         m : List ℕ
         m = (unbroken c s key iv before) .mask

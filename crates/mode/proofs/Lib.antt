@@ -6,9 +6,12 @@ pub mod Rows
 pub mod Answers
 pub mod Passed
 pub mod Decisions
+pub mod Same
 pub mod Laws
 pub mod Blocks
 pub mod Bytes
+pub mod Halves
+pub mod InWords
 pub mod Runs
 pub mod SealedLength
 pub mod Segments
@@ -17,6 +20,7 @@ pub mod Powers
 pub mod Records
 pub mod Demand2
 pub mod Demand3
+pub mod Forms
 pub mod ZeroMask
 pub mod NoDifference
 pub mod SignedJump

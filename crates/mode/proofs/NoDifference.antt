@@ -4,7 +4,7 @@ use mathlib.Core.Path.{_≡_, refl, sym, ap, _∙_}
 use mathlib.Core.Bool.{Bool, true, false}
 use mathlib.Core.List.{List, [], _∷_, _++_}
 use Prim.Native.Nat.{ℕ}
-use Rattle.mode.specs.Mode.{Cipher, Lawful, RunRecord, plaintext, blocksOf, padded, unbrokenTag, sealedRecord}
+use Rattle.mode.specs.Mode.{Cipher, Lawful, RunRecord, inWords, plaintext, blocksOf, padded, unbrokenTag, sealedRecord}
 use Rattle.mode.specs.Table.{given, zeroMask}
 use Rattle.mode.specs.Calls.{callsOf, close, blocksOfRun}
 use Rattle.mode.specs.Parallel.{Work, sealing, ivOf, sourceOf, textOf, lastKind, allBlocks, Setting, runsFrom, Segment, recorded, isRecorded, segment, start}
@@ -33,14 +33,14 @@ module _ (c : Cipher) (laws : Lawful c) (key : List ℕ) where
   all-of work r bytes d = (demand3 c laws (record { key = key; work = work; pieces = d .pieces }) (nonzero work r bytes d) (d .formed) (d .calls) (d .allowed)) .single (d .runs) r bytes (d .one-left)
 
   pub no-difference : (work : Work) (r q : RunRecord) (bytes text : List ℕ) → Done c key work r bytes → Done c key work q text
-      → (bytes ≡ text) × (close c key (ivOf work) r ≡ close c key (ivOf work) q)
+      → (bytes ≡ text) × (close inWords c key (ivOf work) r ≡ close inWords c key (ivOf work) q)
   unfolding whole wholeTag
   no-difference work r q bytes text d e =
       let one = all-of work r bytes d in
       let two = all-of work q text e in
       (one .ciphertext-whole ∙ sym (two .ciphertext-whole), one .closes-whole ∙ sym (two .closes-whole))
 
-  pub sealed-whole : (iv message bytes tag : List ℕ) (r : RunRecord) → Done c key (sealing iv message) r bytes → close c key iv r ≡ given tag
+  pub sealed-whole : (iv message bytes tag : List ℕ) (r : RunRecord) → Done c key (sealing iv message) r bytes → close inWords c key iv r ≡ given tag
       → iv ++ bytes ++ tag ≡ sealedRecord c key iv message
   unfolding whole wholeTag sealedRecord ivOf sourceOf textOf lastKind allBlocks blocksOfRun
   sealed-whole iv message bytes tag r d e =

@@ -4,13 +4,14 @@ use mathlib.Core.Path.{_≡_, refl, sym, subst, _∙_}
 use mathlib.Core.Logic.{_⊎_, inl, inr}
 use mathlib.Core.List.{List, [], _∷_}
 use mathlib.Core.Bool.{Bool, true, false, cond, not}
-use Prim.Native.Nat.{ℕ, suc, _+_, _*_, _%_, _≤_, _<_}
+use Prim.Native.Nat.{ℕ, suc, _+_, _*_, _-_, _%_, _≤_, _<_}
 use lib.IntN.{ℤ, pos, negsuc, negℤ, negℤ-negℤ}
-use lib.ListN.{length}
+use lib.ListN.{length, drop}
 use native.Mathlib.Omega.{arith}
-use Rattle.blocks.specs.Bytes.{Block, same, firstBlocks, concat}
+use Rattle.blocks.specs.Bytes.{Bytes, Block, same, firstBlocks, concat}
+use Rattle.blocks.proofs.Chunks.{bytes-take, bytes-drop}
 use Rattle.blocks.proofs.Sign.{abs-neg}
-use Rattle.mode.specs.Mode.{Cipher, plaintext, ciphertext, RunRecord, zeroBlock, encrypt, blocksOf, ivPart, cipherPart, tagPart, sealedRecord, unbrokenTag, UnbrokenCheck}
+use Rattle.mode.specs.Mode.{Cipher, plaintext, ciphertext, RunRecord, inWords, zeroBlock, encrypt, blocksOf, ivPart, cipherPart, tagPart, sealedRecord, unbrokenTag, UnbrokenCheck}
 use Rattle.mode.specs.Table.{Answer, refused, given, decide, tableOrder, inOrder, not16, unaligned, tooLong, notSealed, beyond, tooFar, apart, notWhole, zeroMask, tooShort, limit, longestMessage}
 use Rattle.mode.specs.Calls.{Kind, middle, last, outcomeBy, blocksOfRun, unalignedRun, seal, openSealed, openRows, unpadded, notPadded, orEmpty, plaintextOf, passFrom, runRecord, sealRun, checkRun, closingTag, close, test, Calls, callsOf}
 use Rattle.mode.specs.Parallel.{sealing, checking, ivOf, lastKind, textOf, Fits, Cut, Setting, WellFormed, Segment, isRecorded, segment, Call, runAt, joinPair, joinMany, consecutive, AllRecorded, recordsAt, Allowed, start, roomOf, runOutcome, afterAll, EachCall}
@@ -23,17 +24,34 @@ use Rattle.mode.proofs.Demand2.{sealing-given, message-fits, sealed-len
 
 -- every message that the call seals, under its key and IV, in any cut
 pub message-cut : (c : Cipher) (key iv message r : List ℕ) (room : ℕ) → (seal c key iv message room) .answer ≡ given r
-    → (pieces : List (List ℕ)) → Cut last pieces → concat pieces ≡ message → WellFormed (record { key = key; work = sealing iv message; pieces = pieces })
+    → Bytes key → Bytes iv → Bytes message → (pieces : List (List ℕ)) → Cut last pieces → concat pieces ≡ message → WellFormed (record { key = key; work = sealing iv message; pieces = pieces })
 unfolding Fits lastKind textOf
-message-cut c key iv message r room e pieces h p =
+message-cut c key iv message r room e bk bi bm pieces h p =
     let rows = (sealing-given c key iv message r room e) .0 in
-    record { key-long = has-16 key (rows .0); fits = (has-16 iv (rows .1 .0), message-fits message (rows .1 .1 .0)); cut = h; pieces-are = p }
+    record {
+      key-long = has-16 key (rows .0);
+      key-bytes = bk;
+      iv-bytes = (unfold ivOf in bi);
+      text-bytes = bm;
+      fits = (has-16 iv (rows .1 .0), message-fits message (rows .1 .1 .0));
+      cut = h;
+      pieces-are = p;
+    }
 
 -- every record of a length that opening takes, genuine or not, in any cut of its ciphertext
-pub record-cut : (key sealed : List ℕ) → length key ≡ 16 → notSealed sealed ≡ false
+pub record-cut : (key sealed : List ℕ) → length key ≡ 16 → notSealed sealed ≡ false → Bytes key → Bytes sealed
     → (pieces : List (List ℕ)) → Cut middle pieces → concat pieces ≡ cipherPart sealed → WellFormed (record { key = key; work = checking sealed; pieces = pieces })
 unfolding Fits lastKind textOf
-record-cut key sealed hk hs pieces h p = record { key-long = hk; fits = sealed-lengths sealed hs; cut = h; pieces-are = p }
+record-cut key sealed hk hs bk bs pieces h p =
+    record {
+      key-long = hk;
+      key-bytes = bk;
+      iv-bytes = (unfold ivOf ivPart in (bytes-take 16 sealed bs));
+      text-bytes = (unfold cipherPart in (bytes-take (length sealed - 32) (drop 16 sealed) (bytes-drop 16 sealed bs)));
+      fits = sealed-lengths sealed hs;
+      cut = h;
+      pieces-are = p;
+    }
 
 -- one piece; and a piece of whole blocks, empty or not, before any others
 pub one-piece : (p : List ℕ) → Cut last (p ∷ [])
@@ -60,7 +78,7 @@ module _ (xs : List Segment) where
   unfolding Allowed
   pair-allowed i h = (h, inl refl)
 
-  pub pair-apart-allowed : (i j : ℕ) → AllRecorded xs (i ∷ j ∷ []) → apart (recordsAt xs (i ∷ j ∷ [])) ≡ true → Allowed xs (joinPair i j)
+  pub pair-apart-allowed : (i j : ℕ) → AllRecorded xs (i ∷ j ∷ []) → apart inWords (recordsAt xs (i ∷ j ∷ [])) ≡ true → Allowed xs (joinPair i j)
   unfolding Allowed
   pair-apart-allowed i j h e = (h, inr e)
 
@@ -72,7 +90,7 @@ module _ (xs : List Segment) where
   unfolding Allowed AllRecorded
   empty-list-allowed = (tt, inr (inl refl))
 
-  pub list-apart-allowed : (is : List ℕ) → AllRecorded xs is → apart (recordsAt xs is) ≡ true → Allowed xs (joinMany is)
+  pub list-apart-allowed : (is : List ℕ) → AllRecorded xs is → apart inWords (recordsAt xs is) ≡ true → Allowed xs (joinMany is)
   unfolding Allowed
   list-apart-allowed is h e = (h, inr (inr e))
 
@@ -120,11 +138,11 @@ module _ (c : Cipher) (z : ZeroMask c) where
   open-ten sealed room h e = z .of-open zeroBlock sealed room (rw e (z .one-iv .1)) refl h
 
   pub seal-run-ten : (first : ℕ) (kind : Kind) (bytes : List ℕ) (room : ℕ) → unalignedRun kind bytes ≡ false → first + length (blocksOfRun kind bytes) ≤ limit
-      → Refuses (sealRun c zeroBlock iv₀ first kind bytes room) 10 room
+      → Refuses (sealRun inWords c zeroBlock iv₀ first kind bytes room) 10 room
   seal-run-ten first kind bytes room a h = z .of-seal-run zeroBlock iv₀ first kind bytes room (z .one-iv .1) refl (z .one-iv .0 .long) a h
 
   pub empty-run-ten : (first room : ℕ) → first ≤ limit
-      → Refuses (sealRun c zeroBlock iv₀ first middle [] room) 10 room × (checkRun c zeroBlock iv₀ first [] ≡ refused 10)
+      → Refuses (sealRun inWords c zeroBlock iv₀ first middle [] room) 10 room × (checkRun inWords c zeroBlock iv₀ first [] ≡ refused 10)
   unfolding unalignedRun unaligned blocksOfRun blocksOf firstBlocks
   empty-run-ten first room h = (
     seal-run-ten first middle [] room refl (omega arith),
@@ -132,7 +150,7 @@ module _ (c : Cipher) (z : ZeroMask c) where
   )
 
   pub close-ten : (r : RunRecord) (tag : List ℕ) → r .first ≡ 0 → 0 < r .count → r .count ≤ limit → length tag ≡ 16
-      → (close c zeroBlock iv₀ r ≡ refused 10) × (test c zeroBlock iv₀ r tag ≡ refused 10)
+      → (close inWords c zeroBlock iv₀ r ≡ refused 10) × (test inWords c zeroBlock iv₀ r tag ≡ refused 10)
   close-ten r tag start some h t =
       let w = is-whole r start (λ e. omega arith) in (
         z .of-close zeroBlock iv₀ r (z .one-iv .1) refl (z .one-iv .0 .long) (omega arith) w,
@@ -171,7 +189,7 @@ module _ (c : Cipher) (b : AsBefore c) (key iv : List ℕ) where
 
   pub seal-run-before : (first : ℕ) (kind : Kind) (bytes : List ℕ) (room : ℕ) → zeroMask c key iv ≡ false
       → let blocks = blocksOfRun kind bytes in
-      sealRun c key iv first kind bytes room
+      sealRun inWords c key iv first kind bytes room
       ≡ outcomeBy
       (decide
       ((1, not16 key)
@@ -180,32 +198,32 @@ module _ (c : Cipher) (b : AsBefore c) (key iv : List ℕ) where
       ∷ (4, beyond first (length blocks))
       ∷ (5, tooShort room (16 * length blocks))
       ∷ [])
-      (runRecord c plaintext key iv first blocks)) ((passFrom c plaintext key iv first blocks) .output) room
+      (runRecord inWords c plaintext key iv first blocks)) ((passFrom c plaintext key iv first blocks) .output) room
   unfolding without
   seal-run-before first kind bytes room z = b .of-seal-run key iv first kind bytes room z
 
   pub check-run-before : (first : ℕ) (bytes : List ℕ) → zeroMask c key iv ≡ false
-      → checkRun c key iv first bytes
+      → checkRun inWords c key iv first bytes
       ≡ decide ((1, not16 key) ∷ (2, not16 iv) ∷ (3, unaligned bytes) ∷ (4, beyond first (length (blocksOf bytes))) ∷ [])
-      (runRecord c ciphertext key iv first (blocksOf bytes))
+      (runRecord inWords c ciphertext key iv first (blocksOf bytes))
   unfolding without
   check-run-before first bytes z = b .of-check-run key iv first bytes z
 
   pub close-before : (r : RunRecord) → zeroMask c key iv ≡ false
-      → close c key iv r
-      ≡ decide ((1, not16 key) ∷ (2, not16 iv) ∷ (4, beyond (r .first) (r .count)) ∷ (9, notWhole r) ∷ []) (closingTag c key iv r)
+      → close inWords c key iv r
+      ≡ decide ((1, not16 key) ∷ (2, not16 iv) ∷ (4, beyond (r .first) (r .count)) ∷ (9, notWhole inWords r) ∷ []) (closingTag inWords c key iv r)
   unfolding without
   close-before r z = b .of-close key iv r z
 
   pub test-before : (r : RunRecord) (tag : List ℕ) → zeroMask c key iv ≡ false
-      → test c key iv r tag
+      → test inWords c key iv r tag
       ≡ decide
       ((1, not16 key)
       ∷ (2, not16 iv)
       ∷ (3, not16 tag)
       ∷ (4, beyond (r .first) (r .count))
-      ∷ (9, notWhole r)
-      ∷ (6, not (same (closingTag c key iv r) tag))
+      ∷ (9, notWhole inWords r)
+      ∷ (6, not (same (closingTag inWords c key iv r) tag))
       ∷ [])
       tt
   unfolding without

@@ -12,49 +12,74 @@ use lib.Dec.{eqb, ltb}
 use borrow.Author.Tests.{eqb-true, ltb-false, not-false}
 use Rattle.blocks.specs.Bytes.{xorBytes, Bytes, Block, concat}
 use Rattle.blocks.specs.Gf128.{jump}
+use Rattle.blocks.specs.Words.{Proper, bytesOf, wordsOf}
+use Rattle.blocks.proofs.Bridge.{block-bytesOf, bytes-words, words-bytes}
 use Rattle.blocks.proofs.XorBytes.{xorBytes-assoc, xorBytes-zeros}
 use Rattle.blocks.proofs.TimesX.{jump-xor, jump-add, length-jump, block-jump}
-use Rattle.mode.specs.Mode.{Cipher, Lawful, plaintext, ciphertext, RunRecord, zeroBlock, startMask, blocksOf, padded}
+use Rattle.mode.specs.Mode.{Cipher, Lawful, plaintext, ciphertext, RunRecord, inWords, zeroBlock, startMask, blocksOf, padded}
 use Rattle.mode.specs.Table.{Answer, refused, given, decide, NoneHolds, unaligned, beyond, anyBeyond, apart, limit, none}
 use Rattle.mode.specs.Calls.{unalignedRun, joined, joinedOnto, joinedAll, joinList, Kind, middle, last, blocksOfRun, outcomeBy, passFrom, runRecord, sealRun, sealRunRows, checkRun, checkRunRows}
-use Rattle.mode.proofs.Laws.{same-record}
+use Rattle.mode.proofs.InWords.{same-record, block-zero, joined-block}
 use Rattle.mode.proofs.Blocks.{length-padded, aligned}
 use Rattle.mode.proofs.Runs.{is16}
-use Rattle.mode.proofs.Bytes.{AllBlocks, good-blocks, bytes-padded, blocks-concat, length-concat}
+use Rattle.mode.proofs.Bytes.{AllBlocks, run-blocks, blocks-concat, length-concat}
 use Rattle.mode.specs.Demands.{CheckedAsSealed, ListWithin}
 use Rattle.mode.proofs.Decisions.{given-rows, passed-rows}
-use Rattle.mode.proofs.Demand2.{sealedBlocks, same-preauthenticator, sealed-good, output-is, length-sealed, start-block, or-false}
+use Rattle.mode.proofs.Demand2.{sealedBlocks, same-preauthenticator, sealed-good, output-is, length-sealed, or-false}
+use Rattle.mode.proofs.Halves.{start-block}
 
 -- joining is independent of grouping
-pub joined-assoc : (a b c : RunRecord) → length (a .preauthenticator) ≡ 16 → length (b .preauthenticator) ≡ 16 → joined (joined a b) c ≡ joined a (joined b c)
+pub joined-assoc : (a b c : RunRecord) → joined inWords (joined inWords a b) c ≡ joined inWords a (joined inWords b c)
 unfolding joined
-joined-assoc a b c ha hb =
-    same-record (joined (joined a b) c) (joined a (joined b c)) refl (add-assoc (a .count) (b .count) (c .count))
-    (ap (λ (x : List ℕ). xorBytes x (c .preauthenticator))
-    (jump-xor (c .count) (jump (b .count) (a .preauthenticator)) (b .preauthenticator) (length-jump (b .count) (a .preauthenticator) ha) hb
-    ∙ ap (λ (x : List ℕ). xorBytes x (jump (c .count) (b .preauthenticator)))
-    (sym (jump-add (c .count) (b .count) (a .preauthenticator)) ∙ ap (λ (n : ℕ). jump n (a .preauthenticator)) (add-comm (c .count) (b .count))))
-    ∙ xorBytes-assoc (jump (b .count + c .count) (a .preauthenticator)) (jump (c .count) (b .preauthenticator)) (c .preauthenticator))
+joined-assoc a b c =
+    same-record (joined inWords (joined inWords a b) c) (joined inWords a (joined inWords b c)) refl (add-assoc (a .count) (b .count) (c .count))
+    (ap wordsOf (ap (λ (x : List ℕ). xorBytes (jump (c .count) x) z) (bytes-words (xorBytes (jump (b .count) x) y) (joined-block x y (b .count) hx hy))
+    ∙ ap (λ (t : List ℕ). xorBytes t z)
+    (jump-xor (c .count) (jump (b .count) x) y (length-jump (b .count) x (hx .long)) (hy .long)
+    ∙ ap (λ (t : List ℕ). xorBytes t (jump (c .count) y))
+    (sym (jump-add (c .count) (b .count) x) ∙ ap (λ (n : ℕ). jump n x) (add-comm (c .count) (b .count))))
+    ∙ xorBytes-assoc (jump (b .count + c .count) x) (jump (c .count) y) z
+    ∙ ap (xorBytes (jump (b .count + c .count) x)) (sym (bytes-words (xorBytes (jump (c .count) y) z) (joined-block y z (c .count) hy hz)))))
+  where
+    x : List ℕ
+    x = bytesOf (a .preauthenticator)
+
+    y : List ℕ
+    y = bytesOf (b .preauthenticator)
+
+    z : List ℕ
+    z = bytesOf (c .preauthenticator)
+
+    hx : Block (bytesOf (a .preauthenticator))
+    hx = block-bytesOf (a .preauthenticator)
+
+    hy : Block (bytesOf (b .preauthenticator))
+    hy = block-bytesOf (b .preauthenticator)
+
+    hz : Block (bytesOf (c .preauthenticator))
+    hz = block-bytesOf (c .preauthenticator)
 
 -- card (j), of every record
-pub joined-empty : (a : RunRecord) (first : ℕ) → length (a .preauthenticator) ≡ 16 → joined a (record { first = first; count = 0; preauthenticator = zeroBlock }) ≡ a
+pub joined-empty : (a : RunRecord) (first : ℕ) → Proper (a .preauthenticator) → joined inWords a (inWords .make first 0 zeroBlock) ≡ a
 unfolding joined jump
 joined-empty a first h =
-    same-record (joined a (record { first = first; count = 0; preauthenticator = zeroBlock })) a refl (add-zero (a .count)) (xorBytes-zeros 16 (a .preauthenticator) h)
+    same-record (joined inWords a (inWords .make first 0 zeroBlock)) a refl (add-zero (a .count))
+    (ap wordsOf (ap (xorBytes (bytesOf (a .preauthenticator))) (bytes-words zeroBlock block-zero) ∙ xorBytes-zeros 16 (bytesOf (a .preauthenticator)) (block-bytesOf (a .preauthenticator) .long))
+    ∙ words-bytes (a .preauthenticator) h)
 
 -- a joined list is within the limit again: its sums need no more than 32 bits
-onto-within : (l : RunRecord) (rs : List RunRecord) → l .first + l .count ≤ limit → anyBeyond rs ≡ false → apart (l ∷ rs) ≡ false
-    → (joinedOnto l rs) .first + (joinedOnto l rs) .count ≤ limit
+onto-within : (l : RunRecord) (rs : List RunRecord) → l .first + l .count ≤ limit → anyBeyond inWords rs ≡ false → apart inWords (l ∷ rs) ≡ false
+    → (joinedOnto inWords l rs) .first + (joinedOnto inWords l rs) .count ≤ limit
 unfolding joinedOnto anyBeyond apart beyond joined
 onto-within l [] h b a = h
 onto-within l (r ∷ rs) h b a =
-    let u = or-false (ltb limit (r .first + r .count)) (anyBeyond rs) b in
-    let v = or-false (not (eqb (l .first + l .count) (r .first))) (apart (r ∷ rs)) a in
+    let u = or-false (ltb limit (r .first + r .count)) (anyBeyond inWords rs) b in
+    let v = or-false (not (eqb (l .first + l .count) (r .first))) (apart inWords (r ∷ rs)) a in
     let e : l .first + l .count ≡ r .first = eqb-true (l .first + l .count) (r .first) (not-false (eqb (l .first + l .count) (r .first)) (v .0)) in
     let k : r .first + r .count ≤ limit = ltb-false limit (r .first + r .count) (u .0) in
-    onto-within (joined l r) rs (omega arith) (u .1) (next rs e (v .1))
+    onto-within (joined inWords l r) rs (omega arith) (u .1) (next rs e (v .1))
   where
-    next : (rs : List RunRecord) → l .first + l .count ≡ r .first → apart (r ∷ rs) ≡ false → apart (joined l r ∷ rs) ≡ false
+    next : (rs : List RunRecord) → l .first + l .count ≡ r .first → apart inWords (r ∷ rs) ≡ false → apart inWords (joined inWords l r ∷ rs) ≡ false
     next [] e a = refl
     next (q ∷ qs) e a =
         let n : l .first + (l .count + r .count) ≡ r .first + r .count = omega arith in
@@ -62,22 +87,17 @@ onto-within l (r ∷ rs) h b a =
 
 pub list-within : ListWithin
 unfolding joinList
-list-within [] r e = absurd (let z = (given-rows ((4, anyBeyond []) ∷ (8, apart []) ∷ (9, none []) ∷ []) (joinedAll []) r e) .0 .1 .1 .0 in bad (unfold none in z))
+list-within [] r e = absurd (let z = (given-rows ((4, anyBeyond inWords []) ∷ (8, apart inWords []) ∷ (9, none []) ∷ []) (joinedAll inWords []) r e) .0 .1 .1 .0 in bad (unfold none in z))
   where
     bad : true ≡ false → ⊥
     bad e = let z : _≡_ {A = ℕ} 0 1 = cc in omega arith
 list-within (l ∷ rs) r e =
-    let g = given-rows ((4, anyBeyond (l ∷ rs)) ∷ (8, apart (l ∷ rs)) ∷ (9, none (l ∷ rs)) ∷ []) (joinedAll (l ∷ rs)) r e in
-    let u = or-false (beyond (l .first) (l .count)) (anyBeyond rs) (unfold anyBeyond in (g .0 .0)) in
+    let g = given-rows ((4, anyBeyond inWords (l ∷ rs)) ∷ (8, apart inWords (l ∷ rs)) ∷ (9, none (l ∷ rs)) ∷ []) (joinedAll inWords (l ∷ rs)) r e in
+    let u = or-false (beyond (l .first) (l .count)) (anyBeyond inWords rs) (unfold anyBeyond in (g .0 .0)) in
     let k : l .first + l .count ≤ limit = ltb-false limit (l .first + l .count) (unfold beyond in (u .0)) in
     subst (λ (r : RunRecord). r .first + r .count ≤ limit) (g .1) (unfold joinedAll in (onto-within l rs k (u .1) (g .0 .1 .0)))
 
 -- ---- checking what was sealed
-
-run-blocks : (kind : Kind) (bytes : List ℕ) → Bytes bytes → unalignedRun kind bytes ≡ false → AllBlocks (blocksOfRun kind bytes)
-unfolding blocksOfRun unalignedRun unaligned
-run-blocks middle bytes h e = good-blocks bytes (eqb-true (length bytes % 16) 0 (not-false (eqb (length bytes % 16) 0) e)) h
-run-blocks last bytes h e = good-blocks (padded bytes) (ap (λ (k : ℕ). k % 16) (length-padded bytes) ∙ omega arith) (bytes-padded bytes h)
 
 by-answer : (a : Answer RunRecord) (out : List ℕ) (room : ℕ) (r : RunRecord) → (outcomeBy a out room) .answer ≡ given r
     → (a ≡ given r) × (take ((outcomeBy a out room) .reported) ((outcomeBy a out room) .output) ≡ out)
@@ -89,7 +109,7 @@ by-answer (given q) out room r e = (e, take-append-seam out (replicate (room - l
 pub checked-as-sealed : (c : Cipher) → Lawful c → CheckedAsSealed c
 unfolding sealRun
 checked-as-sealed c laws key iv kb ib first kind bytes room hb r e =
-    ap (checkRun c key iv first) (a .1) ∙ passes
+    ap (checkRun inWords c key iv first) (a .1) ∙ passes
     ∙ ap (λ (x : RunRecord). given x) (same ∙ g .1)
   where
     bs : List (List ℕ)
@@ -101,12 +121,12 @@ checked-as-sealed c laws key iv kb ib first kind bytes room hb r e =
     text : List ℕ
     text = (passFrom c plaintext key iv first (blocksOfRun kind bytes)) .output
 
-    a : (decide rows (runRecord c plaintext key iv first bs) ≡ given r)
-        × (take ((outcomeBy (decide rows (runRecord c plaintext key iv first bs)) text room) .reported) ((outcomeBy (decide rows (runRecord c plaintext key iv first bs)) text room) .output) ≡ text)
-    a = by-answer (decide rows (runRecord c plaintext key iv first bs)) text room r e
+    a : (decide rows (runRecord inWords c plaintext key iv first bs) ≡ given r)
+        × (take ((outcomeBy (decide rows (runRecord inWords c plaintext key iv first bs)) text room) .reported) ((outcomeBy (decide rows (runRecord inWords c plaintext key iv first bs)) text room) .output) ≡ text)
+    a = by-answer (decide rows (runRecord inWords c plaintext key iv first bs)) text room r e
 
-    g : NoneHolds rows × (runRecord c plaintext key iv first bs ≡ r)
-    g = given-rows rows (runRecord c plaintext key iv first bs) r (a .0)
+    g : NoneHolds rows × (runRecord inWords c plaintext key iv first bs ≡ r)
+    g = given-rows rows (runRecord inWords c plaintext key iv first bs) r (a .0)
 
     good : AllBlocks (blocksOfRun kind bytes)
     good = run-blocks kind bytes hb (g .0 .1 .1 .0)
@@ -135,15 +155,15 @@ checked-as-sealed c laws key iv kb ib first kind bytes room hb r e =
     four : beyond first (length (blocksOf text)) ≡ false
     four = ap (λ (l : List (List ℕ)). beyond first (length l)) blocks-are ∙ ap (beyond first) (length-sealed c laws key kb bs mask) ∙ g .0 .1 .1 .1 .0
 
-    same : runRecord c ciphertext key iv first (blocksOf text) ≡ runRecord c plaintext key iv first bs
+    same : runRecord inWords c ciphertext key iv first (blocksOf text) ≡ runRecord inWords c plaintext key iv first bs
     same =
-        ap (runRecord c ciphertext key iv first) blocks-are
+        ap (runRecord inWords c ciphertext key iv first) blocks-are
         ∙ (unfold runRecord passFrom in
-        same-record (runRecord c ciphertext key iv first cs) (runRecord c plaintext key iv first bs) refl (length-sealed c laws key kb bs mask)
-        (same-preauthenticator c laws key kb bs mask zeroBlock good mask-block))
+        same-record (runRecord inWords c ciphertext key iv first cs) (runRecord inWords c plaintext key iv first bs) refl (length-sealed c laws key kb bs mask)
+        (ap wordsOf (same-preauthenticator c laws key kb bs mask zeroBlock good mask-block)))
 
-    passes : checkRun c key iv first text ≡ given (runRecord c ciphertext key iv first (blocksOf text))
+    passes : checkRun inWords c key iv first text ≡ given (runRecord inWords c ciphertext key iv first (blocksOf text))
     passes =
         unfold checkRun in
-        passed-rows (checkRunRows c key iv first text) (runRecord c ciphertext key iv first (blocksOf text))
+        passed-rows (checkRunRows c key iv first text) (runRecord inWords c ciphertext key iv first (blocksOf text))
         (is16 key (kb .long), (is16 iv (ib .long), (aligned text text-aligned, (four, (g .0 .1 .1 .1 .1 .0, tt)))))

@@ -10,20 +10,26 @@ use lib.ListN.{length, getD, replicate}
 use lib.Dec.{lit<, lit≤, ltb, eqb}
 use Rattle.blocks.specs.Bytes.{xorBytes, same, concat}
 use Rattle.blocks.specs.Gf128.{jump}
-use Rattle.mode.specs.Mode.{plaintext, ciphertext, RunRecord, zeroBlock, blocksOf, encrypt, startMask, tagFrom, UnbrokenCheck}
+use Rattle.blocks.specs.Words.{bytesOf, wordsOf}
+use Rattle.blocks.specs.declared.words.Words.{Words}
+use Rattle.mode.specs.Mode.{plaintext, ciphertext, RunRecord, inWords, zeroBlock, blocksOf, encrypt, startMask, tagFrom, UnbrokenCheck}
 use Rattle.mode.specs.Table.{Answer, refused, given, decide, anyBeyond, apart, none}
-use Rattle.mode.specs.Calls.{Kind, middle, last, blocksOfRun, Outcome, outcomeBy, joined, joinedAll, blank, joinTwo, joinTwoRows, joinList, joinListRows, passFrom, runRecord, sealRun, checkRun, checkRunRows, close, closeRows, test, Calls}
+use Rattle.mode.specs.Calls.{Kind, middle, last, blocksOfRun, Outcome, outcomeBy, joined, joinedAll, blank, joinTwo, joinTwoRows, joinList, joinListRows, passFrom, runRecord, sealRun, sealRunRows, checkRun, checkRunRows, close, closeRows, test, Calls}
 use Rattle.mode.specs.Parallel.{Segment, recorded, Call, runAt, joinPair, joinMany, Allowed, recordBy, start, afterAll}
 use Rattle.mode.specs.Demands.{Gives, Refuses, Expected, Whole, Agrees, Demand3}
 use Rattle.mode.proofs.Decisions.{outcome-answer}
 use Rattle.mode.proofs.Toy.{toy, computed, aKey, anIv, onePiece, onePiece-formed, zeroKey, zeroKey-formed, replaced, replaced-formed, oneText, oneChecked, oneChecked-formed, twoChecked, twoChecked-formed, threePieces, threePieces-formed}
+
+-- two words alike
+abbrev each : ℕ → Words
+each word = record { high = word; low = word }
 
 -- ---- one run, of the empty message
 
 -- the padding is 80 and zeros; the start mask is 3 in each byte, the middletext 80 + 3 + 1 and then 3 + 1, and the ciphertext (oneText) the
 -- middletext + 3
 abbrev oneRecord : RunRecord
-oneRecord = record { first = 0; count = 1; preauthenticator = 0x82 ∷ replicate 15 2 }
+oneRecord = record { first = 0; count = 1; preauthenticator = record { high = 0x8202020202020202; low = 0x0202020202020202 } }
 
 -- the mask after the block is 6 in each byte, and the tag the pre-authenticator + 6 + 1, plus the pre-authenticator
 abbrev oneTag : List ℕ
@@ -71,13 +77,13 @@ module _ (m : Calls) (d : Demand3 toy m) where
 
 module _ (m : Calls) (d : Demand3 toy m) where
   -- checking either run gives its record: the start mask is 6 in each byte, and 12 after one block
-  check-forced : m .checks-run aKey (replicate 16 7) 0 (replicate 16 7) ≡ given (record { first = 0; count = 1; preauthenticator = replicate 16 1 })
+  check-forced : m .checks-run aKey (replicate 16 7) 0 (replicate 16 7) ≡ given (record { first = 0; count = 1; preauthenticator = each 0x0101010101010101 })
   unfolding computed
   check-forced =
       sym (outcome-answer (m .checks-run aKey (replicate 16 7) 0 (replicate 16 7)) [] 0)
       ∙ (d twoChecked refl twoChecked-formed (runAt 0 0 ∷ []) ((lit< tt, refl), tt)) .answers .0 .with-room (lit≤ tt) .answers
 
-  check-forced-later : m .checks-run aKey (replicate 16 7) 1 (replicate 16 7) ≡ given (record { first = 1; count = 1; preauthenticator = replicate 16 11 })
+  check-forced-later : m .checks-run aKey (replicate 16 7) 1 (replicate 16 7) ≡ given (record { first = 1; count = 1; preauthenticator = each 0x0b0b0b0b0b0b0b0b })
   unfolding computed
   check-forced-later =
       sym (outcome-answer (m .checks-run aKey (replicate 16 7) 1 (replicate 16 7)) [] 0)
@@ -106,13 +112,13 @@ module _ (m : Calls) (d : Demand3 toy m) (byte : ℕ) where
 -- ---- joins, of the records of three runs
 
 abbrev record0 : RunRecord
-record0 = record { first = 0; count = 1; preauthenticator = replicate 16 1 }
+record0 = record { first = 0; count = 1; preauthenticator = each 0x0101010101010101 }
 
 abbrev record1 : RunRecord
-record1 = record { first = 1; count = 1; preauthenticator = replicate 16 3 }
+record1 = record { first = 1; count = 1; preauthenticator = each 0x0303030303030303 }
 
 abbrev record2 : RunRecord
-record2 = record { first = 2; count = 1; preauthenticator = 0x8d ∷ replicate 15 13 }
+record2 = record { first = 2; count = 1; preauthenticator = record { high = 0x8d0d0d0d0d0d0d0d; low = 0x0d0d0d0d0d0d0d0d } }
 
 -- the rack after the three runs
 abbrev rack : List Segment
@@ -124,7 +130,7 @@ rack =
 
 -- our calls, but for the joins
 abbrev joiningBy : (RunRecord → RunRecord → Answer RunRecord) → (List RunRecord → Answer RunRecord) → Calls
-joiningBy two many = record { seals-run = sealRun toy; checks-run = checkRun toy; joins-two = two; joins-list = many; closes = close toy; tests = test toy }
+joiningBy two many = record { seals-run = sealRun inWords toy; checks-run = checkRun inWords toy; joins-two = two; joins-list = many; closes = close inWords toy; tests = test inWords toy }
 
 module _ (two : RunRecord → RunRecord → Answer RunRecord) (many : List RunRecord → Answer RunRecord) (d : Demand3 toy (joiningBy two many)) where
   expected : (call : Call) → Allowed rack call → Expected toy (joiningBy two many) threePieces rack call
@@ -133,11 +139,11 @@ module _ (two : RunRecord → RunRecord → Answer RunRecord) (many : List RunRe
       (d threePieces refl threePieces-formed (runAt 0 16 ∷ runAt 1 16 ∷ runAt 2 16 ∷ call ∷ []) ((lit< tt, refl), ((lit< tt, refl), ((lit< tt, refl), (a, tt))))) .answers .1 .1 .1 .0
 
   -- two neighbours, at the first place and at a later one; two records that are none, at a later place
-  pair-forced : two record0 record1 ≡ given (record { first = 0; count = 2; preauthenticator = replicate 16 1 })
+  pair-forced : two record0 record1 ≡ given (record { first = 0; count = 2; preauthenticator = each 0x0101010101010101 })
   unfolding computed
   pair-forced = expected (joinPair 0 1) ((refl, (refl, tt)), inl refl) .neighbours 0 1 refl
 
-  pair-forced-later : two record1 record2 ≡ given (record { first = 1; count = 2; preauthenticator = 0x8b ∷ replicate 15 11 })
+  pair-forced-later : two record1 record2 ≡ given (record { first = 1; count = 2; preauthenticator = record { high = 0x8b0b0b0b0b0b0b0b; low = 0x0b0b0b0b0b0b0b0b } })
   unfolding computed
   pair-forced-later = expected (joinPair 1 2) ((refl, (refl, tt)), inl refl) .neighbours 1 1 refl
 
@@ -150,11 +156,11 @@ module _ (two : RunRecord → RunRecord → Answer RunRecord) (many : List RunRe
   unfolding computed
   list-forced-one = expected (joinMany (2 ∷ [])) ((refl, tt), inl (2, 0, refl)) .neighbours 2 0 refl
 
-  list-forced-later : many (record1 ∷ record2 ∷ []) ≡ given (record { first = 1; count = 2; preauthenticator = 0x8b ∷ replicate 15 11 })
+  list-forced-later : many (record1 ∷ record2 ∷ []) ≡ given (record { first = 1; count = 2; preauthenticator = record { high = 0x8b0b0b0b0b0b0b0b; low = 0x0b0b0b0b0b0b0b0b } })
   unfolding computed
   list-forced-later = expected (joinMany (1 ∷ 2 ∷ [])) ((refl, (refl, tt)), inl (1, 1, refl)) .neighbours 1 1 refl
 
-  list-forced-all : many (record0 ∷ record1 ∷ record2 ∷ []) ≡ given (record { first = 0; count = 3; preauthenticator = 0x8f ∷ replicate 15 15 })
+  list-forced-all : many (record0 ∷ record1 ∷ record2 ∷ []) ≡ given (record { first = 0; count = 3; preauthenticator = record { high = 0x8f0f0f0f0f0f0f0f; low = 0x0f0f0f0f0f0f0f0f } })
   unfolding computed
   list-forced-all = expected (joinMany (0 ∷ 1 ∷ 2 ∷ [])) ((refl, (refl, (refl, tt))), inl (0, 2, refl)) .neighbours 0 2 refl
 
@@ -184,7 +190,7 @@ same-answer x y e = cc
 
 -- our calls, but for the sealing of a run
 abbrev sealingBy : (List ℕ → List ℕ → ℕ → Kind → List ℕ → ℕ → Outcome RunRecord) → Calls
-sealingBy seals = record { seals-run = seals; checks-run = checkRun toy; joins-two = joinTwo; joins-list = joinList; closes = close toy; tests = test toy }
+sealingBy seals = record { seals-run = seals; checks-run = checkRun inWords toy; joins-two = joinTwo inWords; joins-list = joinList inWords; closes = close inWords toy; tests = test inWords toy }
 
 -- a sealer that refuses every run
 pub refuses-runs-refuted : Demand3 toy (sealingBy (λ key iv first kind bytes room. outcomeBy (refused 3) [] room)) → ⊥
@@ -194,7 +200,7 @@ refuses-runs-refuted d =
 -- a sealer that copies the message through, with the right record
 pub copied : List ℕ → List ℕ → ℕ → Kind → List ℕ → ℕ → Outcome RunRecord
 copied key iv first kind bytes room =
-    outcomeBy (decide ((5, ltb room (16 * length (blocksOfRun kind bytes))) ∷ []) (runRecord toy plaintext key iv first (blocksOfRun kind bytes))) (concat (blocksOfRun kind bytes)) room
+    outcomeBy (decide ((5, ltb room (16 * length (blocksOfRun kind bytes))) ∷ []) (runRecord inWords toy plaintext key iv first (blocksOfRun kind bytes))) (concat (blocksOfRun kind bytes)) room
 
 -- by what the call writes, by the ciphertext in the rack, and by the whole ciphertext at the end
 pub message-copied-refuted : Demand3 toy (sealingBy copied) → ⊥
@@ -221,19 +227,19 @@ byLength key iv first kind bytes room =
     let blocks = blocksOfRun kind bytes in
     outcomeBy
     (decide ((5, ltb room (16 * length blocks)) ∷ [])
-    (record { first = first; count = length blocks; preauthenticator = (passFrom toy plaintext key iv (length blocks) blocks) .preauthenticator }))
+    (inWords .make first (length blocks) ((passFrom toy plaintext key iv (length blocks) blocks) .preauthenticator)))
     ((passFrom toy plaintext key iv (length blocks) blocks) .output) room
 
 -- by the record in the rack
 pub jumped-by-length-refuted : Demand3 toy (sealingBy byLength) → ⊥
 unfolding computed byLength
 jumped-by-length-refuted d =
-    let e : _≡_ {A = ℕ} 0x87 0x82 = ap (λ (r : RunRecord). getD (r .preauthenticator) 0 0) (one (sealingBy byLength) d 16 .records 0 refl) in
+    let e : _≡_ {A = ℕ} 0x8707070707070707 0x8202020202020202 = ap (λ (r : RunRecord). r .preauthenticator .high) (one (sealingBy byLength) d 16 .records 0 refl) in
     omega arith
 
 -- a sealer that never finds its output too short
 pub roomIgnored : List ℕ → List ℕ → ℕ → Kind → List ℕ → ℕ → Outcome RunRecord
-roomIgnored key iv first kind bytes room = sealRun toy key iv first kind bytes 64000
+roomIgnored key iv first kind bytes room = sealRun inWords toy key iv first kind bytes 64000
 
 pub room-ignored-refuted : Demand3 toy (sealingBy roomIgnored) → ⊥
 unfolding computed roomIgnored
@@ -243,7 +249,7 @@ room-ignored-refuted d = no-answer 5 oneRecord (sym (short-forced (sealingBy roo
 pub asksTenBy : (List ℕ → List ℕ → Bool) → List ℕ → List ℕ → ℕ → Kind → List ℕ → ℕ → Outcome RunRecord
 asksTenBy ten key iv first kind bytes room =
     let blocks = blocksOfRun kind bytes in
-    outcomeBy (decide ((10, ten key iv) ∷ []) (runRecord toy plaintext key iv first blocks)) ((passFrom toy plaintext key iv first blocks) .output) room
+    outcomeBy (decide ((10, ten key iv) ∷ []) (runRecord inWords toy plaintext key iv first blocks)) ((passFrom toy plaintext key iv first blocks) .output) room
 
 abbrev ofZeroKeys : List ℕ → List ℕ → Bool
 ofZeroKeys key iv = same key zeroBlock
@@ -263,95 +269,123 @@ before-replaced-refuted d =
 
 -- a checker that runs the wrong half
 pub wrongHalf : List ℕ → List ℕ → ℕ → List ℕ → Answer RunRecord
-wrongHalf key iv first bytes = decide (checkRunRows toy key iv first bytes) (runRecord toy plaintext key iv first (blocksOf bytes))
+wrongHalf key iv first bytes = decide (checkRunRows toy key iv first bytes) (runRecord inWords toy plaintext key iv first (blocksOf bytes))
 
 abbrev checkingBy : (List ℕ → List ℕ → ℕ → List ℕ → Answer RunRecord) → Calls
-checkingBy checks = record { seals-run = sealRun toy; checks-run = checks; joins-two = joinTwo; joins-list = joinList; closes = close toy; tests = test toy }
+checkingBy checks = record { seals-run = sealRun inWords toy; checks-run = checks; joins-two = joinTwo inWords; joins-list = joinList inWords; closes = close inWords toy; tests = test inWords toy }
 
 pub wrong-half-refuted : Demand3 toy (checkingBy wrongHalf) → ⊥
 unfolding computed wrongHalf
 wrong-half-refuted d =
-    let e : _≡_ {A = ℕ} 0 1 = ap (λ (r : RunRecord). getD (r .preauthenticator) 0 0) (same-answer _ _ (check-forced (checkingBy wrongHalf) d)) in
+    let e : _≡_ {A = ℕ} 0 0x0101010101010101 = ap (λ (r : RunRecord). r .preauthenticator .high) (same-answer _ _ (check-forced (checkingBy wrongHalf) d)) in
     omega arith
 
 -- a checker that takes every run for the first
 pub alwaysFirst : List ℕ → List ℕ → ℕ → List ℕ → Answer RunRecord
-alwaysFirst key iv first bytes = decide (checkRunRows toy key iv first bytes) (record { first = first; count = 1; preauthenticator = (passFrom toy ciphertext key iv 0 (blocksOf bytes)) .preauthenticator })
+alwaysFirst key iv first bytes = decide (checkRunRows toy key iv first bytes) (inWords .make first 1 ((passFrom toy ciphertext key iv 0 (blocksOf bytes)) .preauthenticator))
 
 pub always-first-refuted : Demand3 toy (checkingBy alwaysFirst) → ⊥
 unfolding computed alwaysFirst
 always-first-refuted d =
-    let e : _≡_ {A = ℕ} 1 11 = ap (λ (r : RunRecord). getD (r .preauthenticator) 0 0) (same-answer _ _ (check-forced-later (checkingBy alwaysFirst) d)) in
+    let e : _≡_ {A = ℕ} 0x0101010101010101 0x0b0b0b0b0b0b0b0b = ap (λ (r : RunRecord). r .preauthenticator .high) (same-answer _ _ (check-forced-later (checkingBy alwaysFirst) d)) in
     omega arith
 
 -- a joiner that works the first pair and skips the remaining records (document 01, Agreement)
 pub firstPair : List RunRecord → RunRecord
-firstPair [] = blank
+firstPair [] = blank inWords
 firstPair (r ∷ []) = r
-firstPair (l ∷ r ∷ rs) = joined l r
+firstPair (l ∷ r ∷ rs) = joined inWords l r
 
-pub first-pair-only-refuted : Demand3 toy (joiningBy joinTwo (λ rs. decide (joinListRows rs) (firstPair rs))) → ⊥
+pub first-pair-only-refuted : Demand3 toy (joiningBy (joinTwo inWords) (λ rs. decide (joinListRows inWords rs) (firstPair rs))) → ⊥
 unfolding computed firstPair
 first-pair-only-refuted d =
-    let e : _≡_ {A = ℕ} 2 3 = ap (λ (r : RunRecord). r .count) (same-answer _ _ (list-forced-all joinTwo (λ rs. decide (joinListRows rs) (firstPair rs)) d)) in
+    let e : _≡_ {A = ℕ} 2 3 = ap (λ (r : RunRecord). r .count) (same-answer _ _ (list-forced-all (joinTwo inWords) (λ rs. decide (joinListRows inWords rs) (firstPair rs)) d)) in
     omega arith
 
 -- a joiner that refuses every list, and one that gives 8 for the empty list
-pub refuses-lists-refuted : Demand3 toy (joiningBy joinTwo (λ rs. refused 8)) → ⊥
-refuses-lists-refuted d = no-answer 8 record2 (list-forced-one joinTwo (λ rs. refused 8) d)
+pub refuses-lists-refuted : Demand3 toy (joiningBy (joinTwo inWords) (λ rs. refused 8)) → ⊥
+refuses-lists-refuted d = no-answer 8 record2 (list-forced-one (joinTwo inWords) (λ rs. refused 8) d)
 
-pub empty-list-apart-refuted : Demand3 toy (joiningBy joinTwo (λ rs. decide ((4, anyBeyond rs) ∷ (8, apart rs) ∷ (8, none rs) ∷ []) (joinedAll rs))) → ⊥
+pub empty-list-apart-refuted : Demand3 toy (joiningBy (joinTwo inWords) (λ rs. decide ((4, anyBeyond inWords rs) ∷ (8, apart inWords rs) ∷ (8, none rs) ∷ []) (joinedAll inWords rs))) → ⊥
 unfolding computed
 empty-list-apart-refuted d =
-    let e : _≡_ {A = ℕ} 8 9 = other-number 8 9 (list-forced-empty joinTwo (λ rs. decide ((4, anyBeyond rs) ∷ (8, apart rs) ∷ (8, none rs) ∷ []) (joinedAll rs)) d) in
+    let e : _≡_ {A = ℕ} 8 9 = other-number 8 9 (list-forced-empty (joinTwo inWords) (λ rs. decide ((4, anyBeyond inWords rs) ∷ (8, apart inWords rs) ∷ (8, none rs) ∷ []) (joinedAll inWords rs)) d) in
     omega arith
 
 -- a joiner that multiplies the right record, not the left
 pub rightTimes : RunRecord → RunRecord → RunRecord
-rightTimes l r = record { first = l .first; count = l .count + r .count; preauthenticator = xorBytes (l .preauthenticator) (jump (l .count) (r .preauthenticator)) }
+rightTimes l r = inWords .make (l .first) (l .count + r .count) (xorBytes (bytesOf (l .preauthenticator)) (jump (l .count) (bytesOf (r .preauthenticator))))
 
-pub right-multiplied-refuted : Demand3 toy (joiningBy (λ l r. decide (joinTwoRows l r) (rightTimes l r)) joinList) → ⊥
+pub right-multiplied-refuted : Demand3 toy (joiningBy (λ l r. decide (joinTwoRows inWords l r) (rightTimes l r)) (joinList inWords)) → ⊥
 unfolding computed rightTimes
 right-multiplied-refuted d =
-    let e : _≡_ {A = ℕ} 7 1 = ap (λ (r : RunRecord). getD (r .preauthenticator) 0 0) (same-answer _ _ (pair-forced (λ l r. decide (joinTwoRows l r) (rightTimes l r)) joinList d)) in
+    let e : _≡_ {A = ℕ} 0x0707070707070707 0x0101010101010101 = ap (λ (r : RunRecord). r .preauthenticator .high) (same-answer _ _ (pair-forced (λ l r. decide (joinTwoRows inWords l r) (rightTimes l r)) (joinList inWords) d)) in
+    omega arith
+
+-- a joiner that does not add the lower word of the right one, and a sealer whose record has its words swapped
+pub lowNotAdded : RunRecord → RunRecord → RunRecord
+lowNotAdded l r =
+    record {
+      first = l .first;
+      count = l .count + r .count;
+      preauthenticator = record { high = joined inWords l r .preauthenticator .high; low = wordsOf (jump (r .count) (bytesOf (l .preauthenticator))) .low };
+    }
+
+pub low-not-added-refuted : Demand3 toy (joiningBy (λ l r. decide (joinTwoRows inWords l r) (lowNotAdded l r)) (joinList inWords)) → ⊥
+unfolding computed lowNotAdded
+low-not-added-refuted d =
+    let e : _≡_ {A = ℕ} 0x0202020202020202 0x0101010101010101 = ap (λ (r : RunRecord). r .preauthenticator .low) (same-answer _ _ (pair-forced (λ l r. decide (joinTwoRows inWords l r) (lowNotAdded l r)) (joinList inWords) d)) in
+    omega arith
+
+pub swapped : RunRecord → RunRecord
+swapped r = record { first = r .first; count = r .count; preauthenticator = record { high = r .preauthenticator .low; low = r .preauthenticator .high } }
+
+pub wordsSwapped : List ℕ → List ℕ → ℕ → Kind → List ℕ → ℕ → Outcome RunRecord
+wordsSwapped key iv first kind bytes room =
+    outcomeBy (decide (sealRunRows toy key iv first kind bytes room) (swapped (runRecord inWords toy plaintext key iv first (blocksOfRun kind bytes)))) ((passFrom toy plaintext key iv first (blocksOfRun kind bytes)) .output) room
+
+pub words-swapped-refuted : Demand3 toy (sealingBy wordsSwapped) → ⊥
+unfolding computed wordsSwapped swapped
+words-swapped-refuted d =
+    let e : _≡_ {A = ℕ} 0x0202020202020202 0x8202020202020202 = ap (λ (r : RunRecord). r .preauthenticator .high) (one (sealingBy wordsSwapped) d 16 .records 0 refl) in
     omega arith
 
 -- a joiner that gives 4 for 8 where the left record does not start at block 0
 pub wrongLater : RunRecord → RunRecord → Answer RunRecord
-wrongLater l r = decide ((4, anyBeyond (l ∷ r ∷ [])) ∷ (cond (eqb (l .first) 0) 8 4, apart (l ∷ r ∷ [])) ∷ []) (joined l r)
+wrongLater l r = decide ((4, anyBeyond inWords (l ∷ r ∷ [])) ∷ (cond (eqb (l .first) 0) 8 4, apart inWords (l ∷ r ∷ [])) ∷ []) (joined inWords l r)
 
-pub wrong-number-later-refuted : Demand3 toy (joiningBy wrongLater joinList) → ⊥
+pub wrong-number-later-refuted : Demand3 toy (joiningBy wrongLater (joinList inWords)) → ⊥
 unfolding computed wrongLater
 wrong-number-later-refuted d =
-    let e : _≡_ {A = ℕ} 4 8 = other-number 4 8 (pair-forced-apart wrongLater joinList d) in
+    let e : _≡_ {A = ℕ} 4 8 = other-number 4 8 (pair-forced-apart wrongLater (joinList inWords) d) in
     omega arith
 
 -- a closer that takes the mask before the last block, not after it
 pub maskBefore : List ℕ → List ℕ → RunRecord → Answer (List ℕ)
-maskBefore key iv r = decide (closeRows toy key iv r) (tagFrom toy key (r .preauthenticator) (jump (r .count - 1) (startMask toy key iv)))
+maskBefore key iv r = decide (closeRows inWords toy key iv r) (tagFrom toy key (bytesOf (r .preauthenticator)) (jump (r .count - 1) (startMask toy key iv)))
 
 abbrev closingBy : (List ℕ → List ℕ → RunRecord → Answer (List ℕ)) → (List ℕ → List ℕ → RunRecord → List ℕ → Answer (Unit {0})) → Calls
-closingBy closes tests = record { seals-run = sealRun toy; checks-run = checkRun toy; joins-two = joinTwo; joins-list = joinList; closes = closes; tests = tests }
+closingBy closes tests = record { seals-run = sealRun inWords toy; checks-run = checkRun inWords toy; joins-two = joinTwo inWords; joins-list = joinList inWords; closes = closes; tests = tests }
 
-pub mask-before-last-refuted : Demand3 toy (closingBy maskBefore (test toy)) → ⊥
+pub mask-before-last-refuted : Demand3 toy (closingBy maskBefore (test inWords toy)) → ⊥
 unfolding computed maskBefore
 mask-before-last-refuted d =
-    let e : _≡_ {A = ℕ} 2 7 = ap (λ (t : List ℕ). getD t 0 0) (same-answer _ _ (close-forced (closingBy maskBefore (test toy)) d)) in
+    let e : _≡_ {A = ℕ} 2 7 = ap (λ (t : List ℕ). getD t 0 0) (same-answer _ _ (close-forced (closingBy maskBefore (test inWords toy)) d)) in
     omega arith
 
 -- a test that passes every tag, and one that passes none: of a message that is sealed, and of a record that is checked
-pub passes-any-tag-refuted : Demand3 toy (closingBy (close toy) (λ key iv r tag. given tt)) → ⊥
+pub passes-any-tag-refuted : Demand3 toy (closingBy (close inWords toy) (λ key iv r tag. given tt)) → ⊥
 passes-any-tag-refuted d =
-    let e : _≡_ {A = ℕ} 7 0 = ap (λ (t : List ℕ). getD t 0 0) ((test-forced (closingBy (close toy) (λ key iv r tag. given tt)) d (replicate 16 0) refl) .0 refl) in
+    let e : _≡_ {A = ℕ} 7 0 = ap (λ (t : List ℕ). getD t 0 0) ((test-forced (closingBy (close inWords toy) (λ key iv r tag. given tt)) d (replicate 16 0) refl) .0 refl) in
     omega arith
 
-pub passes-no-tag-refuted : Demand3 toy (closingBy (close toy) (λ key iv r tag. refused 6)) → ⊥
-passes-no-tag-refuted d = no-answer 6 tt ((test-forced (closingBy (close toy) (λ key iv r tag. refused 6)) d oneTag refl) .1 refl)
+pub passes-no-tag-refuted : Demand3 toy (closingBy (close inWords toy) (λ key iv r tag. refused 6)) → ⊥
+passes-no-tag-refuted d = no-answer 6 tt ((test-forced (closingBy (close inWords toy) (λ key iv r tag. refused 6)) d oneTag refl) .1 refl)
 
-pub passes-any-checked-refuted : Demand3 toy (closingBy (close toy) (λ key iv r tag. given tt)) → ⊥
+pub passes-any-checked-refuted : Demand3 toy (closingBy (close inWords toy) (λ key iv r tag. given tt)) → ⊥
 passes-any-checked-refuted d =
-    let e : _≡_ {A = ℕ} 7 0 = ap (λ (t : List ℕ). getD t 0 0) ((checked-test-forced (closingBy (close toy) (λ key iv r tag. given tt)) d 0) .0 refl) in
+    let e : _≡_ {A = ℕ} 7 0 = ap (λ (t : List ℕ). getD t 0 0) ((checked-test-forced (closingBy (close inWords toy) (λ key iv r tag. given tt)) d 0) .0 refl) in
     omega arith
 
-pub passes-no-checked-refuted : Demand3 toy (closingBy (close toy) (λ key iv r tag. refused 6)) → ⊥
-passes-no-checked-refuted d = no-answer 6 tt ((checked-test-forced (closingBy (close toy) (λ key iv r tag. refused 6)) d 7) .1 refl)
+pub passes-no-checked-refuted : Demand3 toy (closingBy (close inWords toy) (λ key iv r tag. refused 6)) → ⊥
+passes-no-checked-refuted d = no-answer 6 tt ((checked-test-forced (closingBy (close inWords toy) (λ key iv r tag. refused 6)) d 7) .1 refl)

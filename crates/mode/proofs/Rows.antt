@@ -10,7 +10,7 @@ use lib.ListN.{length}
 use lib.Signed.{ltZ}
 use borrow.Author.Tests.{eq-eqb, ne-eqb, le-ltb, lt-ltb}
 use Rattle.blocks.specs.Bytes.{zeros}
-use Rattle.mode.specs.Mode.{RunRecord}
+use Rattle.mode.specs.Mode.{RunRecord, inWords}
 use Rattle.mode.specs.Table.{Answer, refused, given, decide, firstRow, limit, longestMessage, longestSealed, not16, unaligned, tooLong, notSealed, beyond, tooFar, notWhole}
 use Rattle.mode.specs.Calls.{outcomeBy, number}
 
@@ -127,15 +127,15 @@ pub not-too-long : (m : List ℕ) → length m ≤ longestMessage → tooLong m 
 unfolding tooLong
 not-too-long m h = le-ltb longestMessage (length m) h
 
-pub not-at-start : (r : RunRecord) → (r .first ≡ 0 → ⊥) → notWhole r ≡ true
+pub not-at-start : (r : RunRecord) → (r .first ≡ 0 → ⊥) → notWhole inWords r ≡ true
 unfolding notWhole
 not-at-start r h = rw (ne-eqb (r .first) 0 h)
 
-pub has-no-block : (r : RunRecord) → r .first ≡ 0 → r .count ≡ 0 → notWhole r ≡ true
+pub has-no-block : (r : RunRecord) → r .first ≡ 0 → r .count ≡ 0 → notWhole inWords r ≡ true
 unfolding notWhole
 has-no-block r e h = rw (eq-eqb (r .first) 0 e, eq-eqb (r .count) 0 h)
 
-pub is-whole : (r : RunRecord) → r .first ≡ 0 → (r .count ≡ 0 → ⊥) → notWhole r ≡ false
+pub is-whole : (r : RunRecord) → r .first ≡ 0 → (r .count ≡ 0 → ⊥) → notWhole inWords r ≡ false
 unfolding notWhole
 is-whole r e h = rw (eq-eqb (r .first) 0 e, ne-eqb (r .count) 0 h)
 

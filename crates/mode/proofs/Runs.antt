@@ -11,13 +11,15 @@ use lib.Dec.{leb, ltb}
 use borrow.Author.Tests.{eq-eqb, leb-true, leb-false, le-ltb, lt-ltb}
 use Rattle.blocks.specs.Bytes.{xorBytes}
 use Rattle.blocks.specs.Gf128.{timesX, jump}
+use Rattle.blocks.specs.Words.{wordsOf}
 use Rattle.blocks.proofs.TimesX.{length-timesX, length-jump, jump-add}
-use Rattle.mode.specs.Mode.{Cipher, Lawful, Source, plaintext, ciphertext, RunRecord, zeroBlock, startMask, middletext, written, pass, unbroken, recordOf, blocksOf, ivPart}
+use Rattle.mode.specs.Mode.{Cipher, Lawful, Source, plaintext, ciphertext, RunRecord, inWords, zeroBlock, startMask, middletext, written, pass, unbroken, recordOf, blocksOf, ivPart}
 use Rattle.mode.specs.Table.{Answer, refused, given, decide, not16, beyond, zeroMask, limit}
 use Rattle.mode.specs.Calls.{unalignedRun, Kind, middle, last, blocksOfRun, outcomeBy, passFrom, runRecord, sealRun, sealRunRows, checkRun, callsOf}
 use Rattle.mode.specs.Parallel.{Work, sealing, checking, sourceOf, ivOf, Fits, Run, roomOf, outcomeOfRun}
-use Rattle.mode.proofs.Laws.{AllLong, all-left, all-right, same-record, output-append, start-long, mask-there, middle-long, xor-long}
+use Rattle.mode.proofs.Laws.{AllLong, all-left, all-right, output-append, start-long, mask-there, middle-long, xor-long}
 use Rattle.mode.proofs.Blocks.{run-long}
+use Rattle.mode.proofs.InWords.{same-record}
 
 pub is16 : (a : List ℕ) → length a ≡ 16 → not16 a ≡ false
 unfolding not16
@@ -134,11 +136,11 @@ module _ (c : Cipher) (laws : Lawful c) (key : List ℕ) (key-long : length key 
 
     -- a run's own record is the formulas' record of its blocks
     run-record : (before these : List (List ℕ)) (first : ℕ) → first ≡ length before
-        → runRecord c (sourceOf w) key (ivOf w) first these ≡ recordFor c key w before these
+        → runRecord inWords c (sourceOf w) key (ivOf w) first these ≡ recordFor c key w before these
     unfolding runRecord passFrom recordOf
     run-record before these first e =
-        same-record (runRecord c (sourceOf w) key (ivOf w) first these) (recordFor c key w before these) e refl
-        (ap (λ (m : List ℕ). (pass c (sourceOf w) key these m zeroBlock) .preauthenticator)
+        same-record (runRecord inWords c (sourceOf w) key (ivOf w) first these) (recordFor c key w before these) e refl
+        (ap (λ (m : List ℕ). wordsOf ((pass c (sourceOf w) key these m zeroBlock) .preauthenticator))
         (ap (λ (n : ℕ). jump n (mask0 c key w)) e ∙ sym (mask-there c laws (sourceOf w) key key-long (ivOf w) (iv-long w fit) before)))
 
     run-output : (before these : List (List ℕ)) (first : ℕ) → first ≡ length before
@@ -148,8 +150,8 @@ module _ (c : Cipher) (laws : Lawful c) (key : List ℕ) (key-long : length key 
 
   check-rows : (kind : Kind) (sealed : List ℕ) (r : Run) → Fits (checking sealed) → kind ≡ middle → unalignedRun kind (r .bytes) ≡ false
       → r .first + length (blocksOfRun kind (r .bytes)) ≤ limit
-      → checkRun c key (ivPart sealed) (r .first) (r .bytes)
-      ≡ cond (zeroMask c key (ivPart sealed)) (refused 10) (given (runRecord c ciphertext key (ivPart sealed) (r .first) (blocksOfRun kind (r .bytes))))
+      → checkRun inWords c key (ivPart sealed) (r .first) (r .bytes)
+      ≡ cond (zeroMask c key (ivPart sealed)) (refused 10) (given (runRecord inWords c ciphertext key (ivPart sealed) (r .first) (blocksOfRun kind (r .bytes))))
   unfolding checkRun decide blocksOfRun unalignedRun ivOf
   check-rows middle sealed r fit e al bd =
       let b : beyond (r .first) (length (blocksOf (r .bytes))) ≡ false = within (r .first) (length (blocksOf (r .bytes))) bd in
@@ -184,8 +186,8 @@ module _ (c : Cipher) (laws : Lawful c) (key : List ℕ) (key-long : length key 
       n : ℕ
       n = length bs
 
-      rows : decide (sealRunRows c key iv (r .first) (r .kind) (r .bytes) room) (runRecord c plaintext key iv (r .first) bs)
-          ≡ cond (zeroMask c key iv) (refused 10) (cond (ltb room (16 * n)) (refused 5) (given (runRecord c plaintext key iv (r .first) bs)))
+      rows : decide (sealRunRows c key iv (r .first) (r .kind) (r .bytes) room) (runRecord inWords c plaintext key iv (r .first) bs)
+          ≡ cond (zeroMask c key iv) (refused 10) (cond (ltb room (16 * n)) (refused 5) (given (runRecord inWords c plaintext key iv (r .first) bs)))
       rows =
           let b : beyond (r .first) n ≡ false = within (r .first) n (rw (good .starts) bound) in
           rw (is16 key key-long, is16 iv (iv-long w fit), good .is-aligned, b)

@@ -9,12 +9,14 @@ use lib.ListN.{length, take, drop, length-append, take-append-drop}
 use lib.Seq.{split-at, drop-cons}
 use lib.Dec.{eqb}
 use borrow.Author.Tests.{eq-eqb}
-use Rattle.mode.specs.Mode.{Cipher, Lawful, RunRecord, pass, recordOf}
+use Rattle.mode.specs.Mode.{Cipher, Lawful, RunRecord, inWords, pass, recordOf}
 use Rattle.mode.specs.Table.{beyond, anyBeyond, apart, limit}
 use Rattle.mode.specs.Calls.{blocksOfRun, joined, joinedOnto, joinedAll}
 use Rattle.mode.specs.Parallel.{Work, sourceOf, ivOf, Fits, Run, Segment, pending, recorded, blocksOfRuns, runsIn, recordIn, bytesIn, isRecorded, runsOf, bytesOfSegments, blocksIn, noSegment, segment, consecutive, AllRecorded, recordsAt}
-use Rattle.mode.proofs.Laws.{AllLong, all-left, record-append}
-use Rattle.mode.proofs.Runs.{GoodRun, outputOf, recordFor, outputOf-append, iv-long, within}
+use Rattle.blocks.specs.Bytes.{Block}
+use Rattle.mode.proofs.Bytes.{AllBlocks, all-blocks-left}
+use Rattle.mode.proofs.InWords.{record-append}
+use Rattle.mode.proofs.Runs.{GoodRun, outputOf, recordFor, outputOf-append, within}
 
 -- ---- runs and blocks of segments
 
@@ -148,7 +150,7 @@ module _ (c : Cipher) (key : List ℕ) (w : Work) where
       (omega (arith, ap length (blocksIn-cons x xs), length-append (blocksOfRuns (runsIn x)) (blocksIn xs), length-append before (blocksOfRuns (runsIn x))))
 
   -- no record is beyond the limit
-  pub none-beyond : (xs : List Segment) (is : List ℕ) → Sound [] xs → length (blocksIn xs) ≤ limit → AllRecorded xs is → anyBeyond (recordsAt xs is) ≡ false
+  pub none-beyond : (xs : List Segment) (is : List ℕ) → Sound [] xs → length (blocksIn xs) ≤ limit → AllRecorded xs is → anyBeyond inWords (recordsAt xs is) ≡ false
   unfolding AllRecorded anyBeyond
   none-beyond xs [] s h r = refl
   none-beyond xs (i ∷ is) s h r =
@@ -156,7 +158,7 @@ module _ (c : Cipher) (key : List ℕ) (w : Work) where
       rw one (none-beyond xs is s h (r .1))
 
   -- neighbours are not apart
-  pub not-apart : (before : List (List ℕ)) (xs : List Segment) → Sound before xs → Recs xs → apart (map recordIn xs) ≡ false
+  pub not-apart : (before : List (List ℕ)) (xs : List Segment) → Sound before xs → Recs xs → apart inWords (map recordIn xs) ≡ false
   unfolding apart recordIn isRecorded runsIn recordOf
   not-apart before [] s r = refl
   not-apart before (x ∷ []) s r = refl
@@ -167,32 +169,32 @@ module _ (c : Cipher) (key : List ℕ) (w : Work) where
       rw (s .0 .0, s .1 .0 .0) (eq-eqb (length before + length (blocksOfRuns rs)) (length (before ++ blocksOfRuns rs)) (sym (length-append before (blocksOfRuns rs)))) in
       rw e (not-apart (before ++ blocksOfRuns rs) (recorded rs′ b bytes′ ∷ ys) (s .1) (r .1))
 
-module _ (c : Cipher) (laws : Lawful c) (key : List ℕ) (key-long : length key ≡ 16) (w : Work) (fit : Fits w) where
+module _ (c : Cipher) (laws : Lawful c) (key : List ℕ) (kb : Block key) (w : Work) (ib : Block (ivOf w)) (fit : Fits w) where
   -- neighbours joined onto the record of what stands before them
-  joined-onto : (before x : List (List ℕ)) (ys : List Segment) → Sound c key w (before ++ x) ys → Recs ys → AllLong (x ++ blocksIn ys)
-      → joinedOnto (recordFor c key w before x) (map recordIn ys) ≡ recordFor c key w before (x ++ blocksIn ys)
+  joined-onto : (before x : List (List ℕ)) (ys : List Segment) → Sound c key w (before ++ x) ys → Recs ys → AllBlocks (x ++ blocksIn ys)
+      → joinedOnto inWords (recordFor c key w before x) (map recordIn ys) ≡ recordFor c key w before (x ++ blocksIn ys)
   unfolding joinedOnto isRecorded recordIn runsIn
   joined-onto before x [] s r h = ap (recordFor c key w before) (none-before c key w x)
   joined-onto before x (pending a ∷ ys) s r h = not-both (r .0)
   joined-onto before x (recorded rs a bytes ∷ ys) s r h =
-      ap (λ (t : RunRecord). joinedOnto t (map recordIn ys))
-      (ap (joined (recordFor c key w before x)) (s .0 .0)
-      ∙ sym (record-append c laws (sourceOf w) key key-long (ivOf w) (iv-long w fit) before x (blocksOfRuns rs) (all-left (x ++ blocksOfRuns rs) (blocksIn ys) h′)))
+      ap (λ (t : RunRecord). joinedOnto inWords t (map recordIn ys))
+      (ap (joined inWords (recordFor c key w before x)) (s .0 .0)
+      ∙ sym (record-append c laws (sourceOf w) key kb (ivOf w) ib before x (blocksOfRuns rs) (all-blocks-left (x ++ blocksOfRuns rs) (blocksIn ys) h′)))
       ∙ joined-onto before (x ++ blocksOfRuns rs) ys (subst (λ (b : List (List ℕ)). Sound c key w b ys) (append-assoc before x (blocksOfRuns rs)) (s .1)) (r .1) h′
       ∙ ap (recordFor c key w before) (later c key w x (recorded rs a bytes) ys)
     where
-      h′ : AllLong ((x ++ blocksOfRuns rs) ++ blocksIn ys)
-      h′ = subst AllLong (sym (later c key w x (recorded rs a bytes) ys)) h
+      h′ : AllBlocks ((x ++ blocksOfRuns rs) ++ blocksIn ys)
+      h′ = subst AllBlocks (sym (later c key w x (recorded rs a bytes) ys)) h
 
   -- THE FOLD: neighbours, one or more, join into the record of all their blocks
-  pub joined-all : (before : List (List ℕ)) (ys : List Segment) → 0 < length ys → Sound c key w before ys → Recs ys → AllLong (blocksIn ys)
-      → joinedAll (map recordIn ys) ≡ recordFor c key w before (blocksIn ys)
+  pub joined-all : (before : List (List ℕ)) (ys : List Segment) → 0 < length ys → Sound c key w before ys → Recs ys → AllBlocks (blocksIn ys)
+      → joinedAll inWords (map recordIn ys) ≡ recordFor c key w before (blocksIn ys)
   unfolding joinedAll isRecorded recordIn runsIn
   joined-all before [] n s r h = absurd (not-suc-le-zero n)
   joined-all before (pending a ∷ ys) n s r h = not-both (r .0)
   joined-all before (recorded rs a bytes ∷ ys) n s r h =
-      ap (λ (t : RunRecord). joinedOnto t (map recordIn ys)) (s .0 .0)
-      ∙ joined-onto before (blocksOfRuns rs) ys (s .1) (r .1) (subst AllLong (blocksIn-cons (recorded rs a bytes) ys) h)
+      ap (λ (t : RunRecord). joinedOnto inWords t (map recordIn ys)) (s .0 .0)
+      ∙ joined-onto before (blocksOfRuns rs) ys (s .1) (r .1) (subst AllBlocks (blocksIn-cons (recorded rs a bytes) ys) h)
       ∙ ap (recordFor c key w before) (sym (blocksIn-cons (recorded rs a bytes) ys))
 
   -- what neighbours wrote, in order
@@ -202,5 +204,5 @@ module _ (c : Cipher) (laws : Lawful c) (key : List ℕ) (key-long : length key 
   bytes-all before (pending a ∷ ys) s r = not-both (r .0)
   bytes-all before (recorded rs a bytes ∷ ys) s r =
       ap₂ (λ (x y : List ℕ). x ++ y) (s .0 .1) (bytes-all (before ++ blocksOfRuns rs) ys (s .1) (r .1))
-      ∙ sym (outputOf-append c laws key key-long w fit before (blocksOfRuns rs) (blocksIn ys))
+      ∙ sym (outputOf-append c laws key (kb .long) w fit before (blocksOfRuns rs) (blocksIn ys))
       ∙ ap (outputOf c key w before) (sym (blocksIn-cons (recorded rs a bytes) ys))

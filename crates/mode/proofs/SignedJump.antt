@@ -18,7 +18,7 @@ use Rattle.mode.specs.Demands.{InRange, JumpsTo, SignedJump}
 use Rattle.mode.proofs.Runs.{is16}
 use Rattle.mode.proofs.Laws.{mask-there}
 use Rattle.mode.proofs.Decisions.{passed-rows, outcome-gives}
-use Rattle.mode.proofs.Demand2.{start-block}
+use Rattle.mode.proofs.Halves.{start-block}
 
 jumps : (mask : List ℕ) (d : ℤ) → length mask ≡ 16 → InRange d → JumpsTo mask d (jumpBy d mask)
 unfolding jumpMask tooFar

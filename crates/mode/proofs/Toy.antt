@@ -5,7 +5,9 @@ use Prim.Native.Nat.{ℕ}
 use lib.ListN.{replicate}
 use lib.Dec.{lit≤}
 use Rattle.blocks.specs.Bytes.{xorBytes, firstBlocks, same, concat}
-use Rattle.blocks.specs.Gf128.{timesX, jump, carry, shiftLeft, reduction}
+use Rattle.blocks.specs.Gf128.{timesX, jump, carry, shiftLeft, reduction, num, lowBytes}
+use Rattle.blocks.specs.Words.{bytesOf, wordsOf}
+use Rattle.blocks.proofs.Test.{bytes-by}
 use Rattle.blocks.proofs.XorBytes.{xorBytes-cancel, block-xor}
 use Rattle.mode.specs.Mode.{Cipher, Lawful, zeroBlock, blocksOf, padded, encrypt, startMask, middletext, written, pass, unbroken, recordOf, ivPart, cipherPart, tagPart, tagFrom, unbrokenTag, sealedRecord}
 use Rattle.mode.specs.Table.{decide, not16, unaligned, beyond, anyBeyond, apart, none, notWhole, notSealed, zeroMask}
@@ -37,7 +39,7 @@ toy-lawful =
 
 -- to unfold this is to unfold all that a small case computes by
 unfoldable pub computed : Unit {0}
-unfolding xorBytes firstBlocks same concat timesX jump carry shiftLeft reduction blocksOf padded encrypt startMask middletext written pass unbroken recordOf ivPart cipherPart tagPart tagFrom unbrokenTag sealedRecord decide not16 unaligned beyond anyBeyond apart none notWhole notSealed zeroMask unalignedRun blocksOfRun outcomeBy joined joinedOnto joinedAll joinTwo joinList passFrom runRecord sealRun checkRun closingTag close test openSealed openRows notPadded orEmpty unpadded unpadFrom plaintextOf decrypted sourceOf ivOf textOf lastKind allBlocks Fits Cut runsFrom blocksOfRuns runsIn recordIn bytesIn isRecorded runsOf bytesOfSegments blocksIn consecutive AllRecorded Allowed mergeBy recordBy headOr firstRun empties start roomOf outcomeOfRun runOutcome answerOf after afterAll EachCall whole wholeTag recordOfSegments ciphertextOfSegment Expected TestedAs
+unfolding xorBytes firstBlocks same concat num lowBytes bytesOf wordsOf timesX jump carry shiftLeft reduction blocksOf padded encrypt startMask middletext written pass unbroken recordOf ivPart cipherPart tagPart tagFrom unbrokenTag sealedRecord decide not16 unaligned beyond anyBeyond apart none notWhole notSealed zeroMask unalignedRun blocksOfRun outcomeBy joined joinedOnto joinedAll joinTwo joinList passFrom runRecord sealRun checkRun closingTag close test openSealed openRows notPadded orEmpty unpadded unpadFrom plaintextOf decrypted sourceOf ivOf textOf lastKind allBlocks Fits Cut runsFrom blocksOfRuns runsIn recordIn bytesIn isRecorded runsOf bytesOfSegments blocksIn consecutive AllRecorded Allowed mergeBy recordBy headOr firstRun empties start roomOf outcomeOfRun runOutcome answerOf after afterAll EachCall whole wholeTag recordOfSegments ciphertextOfSegment Expected TestedAs
 computed = tt
 
 abbrev pub aKey : List ℕ
@@ -52,7 +54,7 @@ onePiece = record { key = aKey; work = sealing anIv []; pieces = [] ∷ [] }
 
 pub onePiece-formed : WellFormed onePiece
 unfolding computed
-onePiece-formed = record { key-long = refl; fits = (refl, lit≤ tt); cut = tt; pieces-are = refl }
+onePiece-formed = record { key-long = refl; key-bytes = bytes-by aKey tt; iv-bytes = bytes-by anIv tt; text-bytes = bytes-by [] tt; fits = (refl, lit≤ tt); cut = tt; pieces-are = refl }
 
 -- the same under a key of zeros; and under an IV that is the key, so that step 1 comes to zero and the key is the start mask
 abbrev pub zeroKey : Setting
@@ -60,14 +62,14 @@ zeroKey = record { key = zeroBlock; work = sealing anIv []; pieces = [] ∷ [] }
 
 pub zeroKey-formed : WellFormed zeroKey
 unfolding computed
-zeroKey-formed = record { key-long = refl; fits = (refl, lit≤ tt); cut = tt; pieces-are = refl }
+zeroKey-formed = record { key-long = refl; key-bytes = bytes-by zeroBlock tt; iv-bytes = bytes-by anIv tt; text-bytes = bytes-by [] tt; fits = (refl, lit≤ tt); cut = tt; pieces-are = refl }
 
 abbrev pub replaced : Setting
 replaced = record { key = aKey; work = sealing aKey []; pieces = [] ∷ [] }
 
 pub replaced-formed : WellFormed replaced
 unfolding computed
-replaced-formed = record { key-long = refl; fits = (refl, lit≤ tt); cut = tt; pieces-are = refl }
+replaced-formed = record { key-long = refl; key-bytes = bytes-by aKey tt; iv-bytes = bytes-by aKey tt; text-bytes = bytes-by [] tt; fits = (refl, lit≤ tt); cut = tt; pieces-are = refl }
 
 -- the sealed record of the empty message with some tag, its ciphertext in one piece: the tag is 7 in each byte (proofs/Refuted.antt)
 abbrev pub oneText : List ℕ
@@ -78,7 +80,7 @@ oneChecked byte = record { key = aKey; work = checking (anIv ++ (oneText ++ repl
 
 pub oneChecked-formed : (byte : ℕ) → WellFormed (oneChecked byte)
 unfolding computed
-oneChecked-formed byte = record { key-long = refl; fits = (lit≤ tt, lit≤ tt, refl); cut = refl; pieces-are = refl }
+oneChecked-formed byte = record { key-long = refl; key-bytes = bytes-by aKey tt; iv-bytes = bytes-by anIv tt; text-bytes = bytes-by oneText tt; fits = (lit≤ tt, lit≤ tt, refl); cut = refl; pieces-are = refl }
 
 -- a ciphertext of two blocks in two pieces
 abbrev pub twoChecked : Setting
@@ -86,7 +88,7 @@ twoChecked = record { key = aKey; work = checking (replicate 64 7); pieces = rep
 
 pub twoChecked-formed : WellFormed twoChecked
 unfolding computed
-twoChecked-formed = record { key-long = refl; fits = (lit≤ tt, lit≤ tt, refl); cut = (refl, refl); pieces-are = refl }
+twoChecked-formed = record { key-long = refl; key-bytes = bytes-by aKey tt; iv-bytes = bytes-by (replicate 16 7) tt; text-bytes = bytes-by (replicate 32 7) tt; fits = (lit≤ tt, lit≤ tt, refl); cut = (refl, refl); pieces-are = refl }
 
 -- 32 bytes in three pieces: a block, a block, and nothing but the padding
 abbrev pub threePieces : Setting
@@ -99,4 +101,4 @@ threePieces =
 
 pub threePieces-formed : WellFormed threePieces
 unfolding computed
-threePieces-formed = record { key-long = refl; fits = (refl, lit≤ tt); cut = (refl, (refl, tt)); pieces-are = refl }
+threePieces-formed = record { key-long = refl; key-bytes = bytes-by aKey tt; iv-bytes = bytes-by anIv tt; text-bytes = bytes-by (replicate 16 3 ++ (replicate 16 4 ++ [])) tt; fits = (refl, lit≤ tt); cut = (refl, (refl, tt)); pieces-are = refl }

@@ -8,7 +8,8 @@ use Prim.Native.Nat.{ℕ}
 use lib.ListN.{take, getD, replicate}
 use lib.Dec.{lit<, lit≤}
 use lib.Bits.{bitXor}
-use Rattle.mode.specs.Mode.{plaintext, RunRecord, zeroBlock, sealedRecord, unbroken, unbrokenTag}
+use Rattle.blocks.proofs.Test.{bytes-by}
+use Rattle.mode.specs.Mode.{plaintext, RunRecord, inWords, zeroBlock, sealedRecord, unbroken, unbrokenTag}
 use Rattle.mode.specs.Table.{refused, given}
 use Rattle.mode.specs.Calls.{middle, last, number, sealRun, callsOf, openSealed}
 use Rattle.mode.specs.Parallel.{sealing, Setting, WellFormed, Run, Segment, recorded, blocksIn, Call, runAt, joinPair, joinMany, Allowed, start, answerOf, after, afterAll, EachCall}
@@ -29,7 +30,8 @@ fourPieces =
 
 fourPieces-formed : WellFormed fourPieces
 unfolding computed
-fourPieces-formed = record { key-long = refl; fits = (refl, lit≤ tt); cut = (refl, (refl, (refl, tt))); pieces-are = refl }
+fourPieces-formed =
+    record { key-long = refl; key-bytes = bytes-by aKey tt; iv-bytes = bytes-by anIv tt; text-bytes = bytes-by (replicate 16 3 ++ (replicate 16 4 ++ replicate 5 5)) tt; fits = (refl, lit≤ tt); cut = (refl, (refl, (refl, tt))); pieces-are = refl }
 
 -- short of a byte; then with room; the last run before the others; a list out of order; the empty list; the empty run; one place twice;
 -- two neighbours; a list of one; the third run; then all that is left as a list
@@ -95,16 +97,16 @@ checks-allowed = ((lit< tt, refl), ((lit< tt, refl), (((refl, (refl, tt)), inr r
 -- ---- a zero start mask: over this cipher, that of the zero key and the zero IV
 
 -- refused with 10, an empty run too
-zero-mask-refused : (sealRun toy zeroBlock zeroBlock 0 last [] 16) .answer ≡ refused 10
+zero-mask-refused : (sealRun inWords toy zeroBlock zeroBlock 0 last [] 16) .answer ≡ refused 10
 unfolding computed
 zero-mask-refused = refl
 
-zero-mask-empty-refused : (sealRun toy zeroBlock zeroBlock 4000 middle [] 0) .answer ≡ refused 10
+zero-mask-empty-refused : (sealRun inWords toy zeroBlock zeroBlock 4000 middle [] 0) .answer ≡ refused 10
 unfolding computed
 zero-mask-empty-refused = refl
 
 -- a start mask that the key took the place of is none: it is 1 in each byte
-replaced-sealed : (sealRun toy aKey aKey 0 middle (replicate 16 3) 16) .answer ≡ given (record { first = 0; count = 1; preauthenticator = replicate 16 3 })
+replaced-sealed : (sealRun inWords toy aKey aKey 0 middle (replicate 16 3) 16) .answer ≡ given (record { first = 0; count = 1; preauthenticator = record { high = 0x0303030303030303; low = 0x0303030303030303 } })
 unfolding computed
 replaced-sealed = refl
 

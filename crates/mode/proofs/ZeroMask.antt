@@ -20,7 +20,8 @@ use Rattle.mode.proofs.Blocks.{aligned}
 use Rattle.mode.proofs.Bytes.{bytes-zeros}
 use Rattle.mode.proofs.Runs.{is16, within}
 use Rattle.mode.proofs.Segments.{not-both}
-use Rattle.mode.proofs.Demand3.{same-true, same-self, start-inv, answerBy, run-is}
+use Rattle.mode.proofs.Same.{same-true, same-self}
+use Rattle.mode.proofs.Demand3.{start-inv, answerBy, run-is}
 
 -- ---- which pairs
 

@@ -7,7 +7,7 @@ use lib.ListN.{length, take}
 use lib.IntN.{ℤ}
 use Rattle.blocks.specs.Bytes.{xorBytes, same, zeros}
 use Rattle.blocks.specs.Gf128.{timesX, jump, jumpBy}
-use Rattle.mode.specs.Mode.{Cipher, Source, plaintext, ciphertext, Pass, RunRecord, blocksOf, padded, zeroBlock, startMask, middletext, pass, tagFrom, unbrokenTag, sealedRecord, ivPart, cipherPart, tagPart}
+use Rattle.mode.specs.Mode.{Cipher, Source, plaintext, ciphertext, Pass, Form, RunRecord, inWords, blocksOf, padded, zeroBlock, startMask, middletext, pass, tagFrom, unbrokenTag, sealedRecord, ivPart, cipherPart, tagPart}
 use Rattle.mode.specs.Table.{Answer, refused, given, decide, not16, unaligned, tooLong, notSealed, beyond, anyBeyond, tooFar, apart, none, notWhole, zeroMask, tooShort}
 -- the code's answers, as it declares them
 pub use Rattle.mode.specs.declared.Written.{Written}
@@ -26,7 +26,7 @@ unfoldable pub outcomeBy : {A : Type 0} → Answer A → List ℕ → ℕ → Ou
 outcomeBy (refused number) bytes room = record { answer = refused number; reported = 0; output = zeros room }
 outcomeBy (given a) bytes room = record { answer = given a; reported = length bytes; output = bytes ++ zeros (room - length bytes) }
 
--- ---- runs
+-- ---- runs, with their record in any form
 
 -- a middle run is a multiple of 16 bytes; a last run has any length and gets the padding
 pub data Kind : Type 0 where
@@ -64,87 +64,88 @@ module _ (c : Cipher) where
   unfoldable pub passFrom : Source → List ℕ → List ℕ → ℕ → List (List ℕ) → Pass
   passFrom s key iv first blocks = pass c s key blocks (jump first (startMask c key iv)) zeroBlock
 
-  unfoldable pub runRecord : Source → List ℕ → List ℕ → ℕ → List (List ℕ) → RunRecord
-  runRecord s key iv first blocks =
-      record { first = first; count = length blocks; preauthenticator = (passFrom s key iv first blocks) .preauthenticator }
+module _ (f : Form) (c : Cipher) where
+  -- the run's record
+  unfoldable pub runRecord : Source → List ℕ → List ℕ → ℕ → List (List ℕ) → f .Record
+  runRecord s key iv first blocks = f .make first (length blocks) ((passFrom c s key iv first blocks) .preauthenticator)
 
   -- SEAL A RUN
-  unfoldable pub sealRun : List ℕ → List ℕ → ℕ → Kind → List ℕ → ℕ → Outcome RunRecord
+  unfoldable pub sealRun : List ℕ → List ℕ → ℕ → Kind → List ℕ → ℕ → Outcome (f .Record)
   sealRun key iv first kind bytes room =
       let blocks = blocksOfRun kind bytes in
-      outcomeBy (decide (sealRunRows key iv first kind bytes room) (runRecord plaintext key iv first blocks)) ((passFrom plaintext key iv first blocks) .output) room
+      outcomeBy (decide (sealRunRows c key iv first kind bytes room) (runRecord plaintext key iv first blocks)) ((passFrom c plaintext key iv first blocks) .output) room
 
   -- CHECK A RUN of ciphertext: the record that sealing would give, and no plaintext
-  unfoldable pub checkRun : List ℕ → List ℕ → ℕ → List ℕ → Answer RunRecord
-  checkRun key iv first bytes = decide (checkRunRows key iv first bytes) (runRecord ciphertext key iv first (blocksOf bytes))
+  unfoldable pub checkRun : List ℕ → List ℕ → ℕ → List ℕ → Answer (f .Record)
+  checkRun key iv first bytes = decide (checkRunRows c key iv first bytes) (runRecord ciphertext key iv first (blocksOf bytes))
 
--- ---- records
+-- ---- records, in any form
 
--- Joining left and right: the left one's first block, the counts added, the left pre-authenticator multiplied by the variable as many
--- times as the right has blocks, plus the right one.
-unfoldable pub joined : RunRecord → RunRecord → RunRecord
-joined l r =
-    record { first = l .first; count = l .count + r .count; preauthenticator = xorBytes (jump (r .count) (l .preauthenticator)) (r .preauthenticator) }
+module _ (f : Form) where
+  -- Joining left and right: the left one's first block, the counts added, the left pre-authenticator multiplied by the variable as many
+  -- times as the right has blocks, plus the right one.
+  unfoldable pub joined : f .Record → f .Record → f .Record
+  joined l r = f .make (f .first l) (f .count l + f .count r) (xorBytes (jump (f .count r) (f .preauthenticator l)) (f .preauthenticator r))
 
-unfoldable pub joinedOnto : RunRecord → List RunRecord → RunRecord
-joinedOnto l [] = l
-joinedOnto l (r ∷ rs) = joinedOnto (joined l r) rs
+  unfoldable pub joinedOnto : f .Record → List (f .Record) → f .Record
+  joinedOnto l [] = l
+  joinedOnto l (r ∷ rs) = joinedOnto (joined l r) rs
 
--- what stands where there is no record
-abbrev pub blank : RunRecord
-blank = record { first = 0; count = 0; preauthenticator = zeroBlock }
+  -- what stands where there is no record
+  abbrev pub blank : f .Record
+  blank = f .make 0 0 zeroBlock
 
--- a list from the left; a list of one record gives that record
-unfoldable pub joinedAll : List RunRecord → RunRecord
-joinedAll [] = blank
-joinedAll (r ∷ rs) = joinedOnto r rs
+  -- a list from the left; a list of one record gives that record
+  unfoldable pub joinedAll : List (f .Record) → f .Record
+  joinedAll [] = blank
+  joinedAll (r ∷ rs) = joinedOnto r rs
 
--- JOIN two records
-abbrev pub joinTwoRows : RunRecord → RunRecord → List (ℕ × Bool)
-joinTwoRows l r = (4, anyBeyond (l ∷ r ∷ [])) ∷ (8, apart (l ∷ r ∷ [])) ∷ []
+  -- JOIN two records
+  abbrev pub joinTwoRows : f .Record → f .Record → List (ℕ × Bool)
+  joinTwoRows l r = (4, anyBeyond f (l ∷ r ∷ [])) ∷ (8, apart f (l ∷ r ∷ [])) ∷ []
 
-unfoldable pub joinTwo : RunRecord → RunRecord → Answer RunRecord
-joinTwo l r = decide (joinTwoRows l r) (joined l r)
+  unfoldable pub joinTwo : f .Record → f .Record → Answer (f .Record)
+  joinTwo l r = decide (joinTwoRows l r) (joined l r)
 
--- JOIN A LENT LIST: row 4 of any record beats row 8 of any pair
-abbrev pub joinListRows : List RunRecord → List (ℕ × Bool)
-joinListRows rs = (4, anyBeyond rs) ∷ (8, apart rs) ∷ (9, none rs) ∷ []
+  -- JOIN A LENT LIST: row 4 of any record beats row 8 of any pair
+  abbrev pub joinListRows : List (f .Record) → List (ℕ × Bool)
+  joinListRows rs = (4, anyBeyond f rs) ∷ (8, apart f rs) ∷ (9, none rs) ∷ []
 
-unfoldable pub joinList : List RunRecord → Answer RunRecord
-joinList rs = decide (joinListRows rs) (joinedAll rs)
+  unfoldable pub joinList : List (f .Record) → Answer (f .Record)
+  joinList rs = decide (joinListRows rs) (joinedAll rs)
 
-module _ (c : Cipher) where
-  abbrev pub closeRows : List ℕ → List ℕ → RunRecord → List (ℕ × Bool)
-  closeRows key iv r =
-      (1, not16 key)
-      ∷ (2, not16 iv)
-      ∷ (4, beyond (r .first) (r .count))
-      ∷ (9, notWhole r)
-      ∷ (10, zeroMask c key iv)
-      ∷ []
+  module _ (c : Cipher) where
+    abbrev pub closeRows : List ℕ → List ℕ → f .Record → List (ℕ × Bool)
+    closeRows key iv r =
+        (1, not16 key)
+        ∷ (2, not16 iv)
+        ∷ (4, beyond (f .first r) (f .count r))
+        ∷ (9, notWhole f r)
+        ∷ (10, zeroMask c key iv)
+        ∷ []
 
-  -- the tag of a whole record
-  unfoldable pub closingTag : List ℕ → List ℕ → RunRecord → List ℕ
-  closingTag key iv r = tagFrom c key (r .preauthenticator) (jump (r .count) (startMask c key iv))
+    -- the tag of a whole record
+    unfoldable pub closingTag : List ℕ → List ℕ → f .Record → List ℕ
+    closingTag key iv r = tagFrom c key (f .preauthenticator r) (jump (f .count r) (startMask c key iv))
 
-  -- CLOSE a record into its tag
-  unfoldable pub close : List ℕ → List ℕ → RunRecord → Answer (List ℕ)
-  close key iv r = decide (closeRows key iv r) (closingTag key iv r)
+    -- CLOSE a record into its tag
+    unfoldable pub close : List ℕ → List ℕ → f .Record → Answer (List ℕ)
+    close key iv r = decide (closeRows key iv r) (closingTag key iv r)
 
-  -- TEST a tag against a record: it passes if closing gives that tag
-  abbrev pub testRows : List ℕ → List ℕ → RunRecord → List ℕ → List (ℕ × Bool)
-  testRows key iv r tag =
-      (1, not16 key)
-      ∷ (2, not16 iv)
-      ∷ (3, not16 tag)
-      ∷ (4, beyond (r .first) (r .count))
-      ∷ (9, notWhole r)
-      ∷ (10, zeroMask c key iv)
-      ∷ (6, not (same (closingTag key iv r) tag))
-      ∷ []
+    -- TEST a tag against a record: it passes if closing gives that tag
+    abbrev pub testRows : List ℕ → List ℕ → f .Record → List ℕ → List (ℕ × Bool)
+    testRows key iv r tag =
+        (1, not16 key)
+        ∷ (2, not16 iv)
+        ∷ (3, not16 tag)
+        ∷ (4, beyond (f .first r) (f .count r))
+        ∷ (9, notWhole f r)
+        ∷ (10, zeroMask c key iv)
+        ∷ (6, not (same (closingTag key iv r) tag))
+        ∷ []
 
-  unfoldable pub test : List ℕ → List ℕ → RunRecord → List ℕ → Answer (Unit {0})
-  test key iv r tag = decide (testRows key iv r tag) tt
+    unfoldable pub test : List ℕ → List ℕ → f .Record → List ℕ → Answer (Unit {0})
+    test key iv r tag = decide (testRows key iv r tag) tt
 
 -- ---- whole lists
 
@@ -231,12 +232,12 @@ pub record Calls : Type 0 where
 abbrev pub callsOf : Cipher → Calls
 callsOf c =
     record {
-      seals-run = sealRun c;
-      checks-run = checkRun c;
-      joins-two = joinTwo;
-      joins-list = joinList;
-      closes = close c;
-      tests = test c;
+      seals-run = sealRun inWords c;
+      checks-run = checkRun inWords c;
+      joins-two = joinTwo inWords;
+      joins-list = joinList inWords;
+      closes = close inWords c;
+      tests = test inWords c;
     }
 
 -- ---- the answers as the code gives them
@@ -255,14 +256,14 @@ unfoldable pub writtenOf : {A : Type 0} → Outcome A → Written
 writtenOf o = record { refusal = number (o .answer); length = o .reported }
 
 unfoldable pub runAnswerOf : Outcome RunRecord → RunAnswer
-runAnswerOf o = record { refusal = number (o .answer); length = o .reported; run = orElse blank (o .answer) }
+runAnswerOf o = record { refusal = number (o .answer); length = o .reported; run = orElse (blank inWords) (o .answer) }
 
 unfoldable pub recordAnswerOf : Answer RunRecord → RecordAnswer
-recordAnswerOf a = record { refusal = number a; run = orElse blank a }
+recordAnswerOf a = record { refusal = number a; run = orElse (blank inWords) a }
 
 -- what stands beside a refusal
 abbrev pub refusedRecord : ℕ → RecordAnswer
-refusedRecord n = record { refusal = n; run = blank }
+refusedRecord n = record { refusal = n; run = blank inWords }
 
 unfoldable pub tagAnswerOf : Answer (List ℕ) → TagAnswer
 tagAnswerOf a = record { refusal = number a; tag = orElse zeroBlock a }

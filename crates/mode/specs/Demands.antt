@@ -5,7 +5,7 @@
 -- outcome function gives. What lay in the output before is no argument of an outcome function, so it shows in nothing.
 use mathlib.Core.Path.{_≡_}
 use mathlib.Core.Logic.{_⊎_, _↔_}
-use mathlib.Core.List.{List, [], _∷_, _++_}
+use mathlib.Core.List.{List, [], _∷_, _++_, map}
 use mathlib.Core.Bool.{Bool, true, false, cond}
 use Prim.Native.Nat.{ℕ, suc, _+_, _*_, _-_, _/_, _%_, _≤_, _<_}
 use lib.ListN.{length, take, drop}
@@ -13,9 +13,11 @@ use lib.IntN.{ℤ, pos, negsuc, negℤ, natAbs, _+ℤ_}
 use lib.Dec.{eqb}
 use Rattle.blocks.specs.Bytes.{Bytes, Block, zeros, xorBytes}
 use Rattle.blocks.specs.Gf128.{jump, overX, jumpBy}
+use Rattle.blocks.specs.declared.words.Words.{Words}
+use Rattle.blocks.specs.Words.{Proper, bytesOf, wordsOf}
 use Rattle.fips197.specs.KeyExpansion.{roundKeys}
 use Rattle.fips197.specs.Cipher.{cipher, invCipher, afterRound}
-use Rattle.mode.specs.Mode.{Cipher, Source, plaintext, ciphertext, Pass, RunRecord, blocksOf, padded, zeroBlock, startMask, encrypt, pass, tagFrom, unbroken, unbrokenTag, recordOf, ivPart, cipherPart, tagPart, sealedRecord, UnbrokenCheck}
+use Rattle.mode.specs.Mode.{Cipher, Source, plaintext, ciphertext, Pass, Form, RunRecord, inWords, ByteRecord, inBytes, blocksOf, padded, zeroBlock, startMask, encrypt, pass, tagFrom, unbroken, unbrokenTag, recordOf, ivPart, cipherPart, tagPart, sealedRecord, UnbrokenCheck}
 use Rattle.mode.specs.Table.{Answer, refused, given, decide, tableOrder, inOrder, NoneHolds, Decides, apart, notSealed, notWhole, zeroMask, limit, longestMessage}
 use Rattle.mode.specs.Calls.{Outcome, outcomeBy, Kind, blocksOfRun, unalignedRun, seal, sealRows, openSealed, openRows, unpadded, orEmpty, plaintextOf, passFrom, runRecord, sealRun, sealRunRows, checkRun, checkRunRows, joinTwo, joinTwoRows, joinList, joinListRows, joinedAll, closingTag, close, closeRows, test, testRows, jumpMask, jumpRows, Calls, callsOf}
 use Rattle.mode.specs.Parallel.{Work, sealing, checking, sourceOf, ivOf, allBlocks, Setting, WellFormed, Run, Segment, recorded, recordIn, bytesIn, isRecorded, blocksIn, segment, Call, runAt, joinPair, joinMany, consecutive, recordsAt, Allowed, start, roomOf, runOutcome, answerOf, afterAll, EachCall}
@@ -59,12 +61,12 @@ AnsweredInto {A} o room = ((x : A) × (bytes : List ℕ) × Gives o x bytes room
 pub record Demand1 (c : Cipher) : Type 0 where
   pub of-seal : (key iv message : List ℕ) (room : ℕ) → AnsweredInto (seal c key iv message room) room
   pub of-open : (key sealed : List ℕ) (room : ℕ) → AnsweredInto (openSealed c key sealed room) room
-  pub of-seal-run : (key iv : List ℕ) (first : ℕ) (kind : Kind) (bytes : List ℕ) (room : ℕ) → AnsweredInto (sealRun c key iv first kind bytes room) room
-  pub of-check-run : (key iv : List ℕ) (first : ℕ) (bytes : List ℕ) → Answered (checkRun c key iv first bytes)
-  pub of-join : (l r : RunRecord) → Answered (joinTwo l r)
-  pub of-join-list : (rs : List RunRecord) → Answered (joinList rs)
-  pub of-close : (key iv : List ℕ) (r : RunRecord) → Answered (close c key iv r)
-  pub of-test : (key iv : List ℕ) (r : RunRecord) (tag : List ℕ) → Answered (test c key iv r tag)
+  pub of-seal-run : (key iv : List ℕ) (first : ℕ) (kind : Kind) (bytes : List ℕ) (room : ℕ) → AnsweredInto (sealRun inWords c key iv first kind bytes room) room
+  pub of-check-run : (key iv : List ℕ) (first : ℕ) (bytes : List ℕ) → Answered (checkRun inWords c key iv first bytes)
+  pub of-join : (l r : RunRecord) → Answered (joinTwo inWords l r)
+  pub of-join-list : (rs : List RunRecord) → Answered (joinList inWords rs)
+  pub of-close : (key iv : List ℕ) (r : RunRecord) → Answered (close inWords c key iv r)
+  pub of-test : (key iv : List ℕ) (r : RunRecord) (tag : List ℕ) → Answered (test inWords c key iv r tag)
   pub of-jump : (mask : List ℕ) (distance : ℤ) (room : ℕ) → AnsweredInto (jumpMask mask distance room) room
 
 -- ---- WHAT DEMANDS 2 AND 3 LEAVE OUT (ticket P3): a key and an IV whose start mask is still zero after its replacement. This is asked where
@@ -129,7 +131,7 @@ module _ (c : Cipher) where
 
   abbrev pub stepTwoRecord : Source → List ℕ → List ℕ → ℕ → List (List ℕ) → RunRecord
   stepTwoRecord s key iv first blocks =
-      record { first = first; count = length blocks; preauthenticator = (stepTwo s key iv first blocks) .preauthenticator }
+      record { first = first; count = length blocks; preauthenticator = wordsOf ((stepTwo s key iv first blocks) .preauthenticator) }
 
   pub record Demand2c : Type 0 where
     pub of-seal : (key iv message : List ℕ) (room : ℕ)
@@ -137,17 +139,21 @@ module _ (c : Cipher) where
     pub of-open : (key sealed : List ℕ) (room : ℕ)
         → DecidedInto (openRows c key sealed room) (openSealed c key sealed room) (orEmpty (unpadded (plaintextOf c key sealed))) (orEmpty (unpadded (plaintextOf c key sealed))) room
     pub of-seal-run : (key iv : List ℕ) (first : ℕ) (kind : Kind) (bytes : List ℕ) (room : ℕ)
-        → DecidedInto (sealRunRows c key iv first kind bytes room) (sealRun c key iv first kind bytes room)
+        → DecidedInto (sealRunRows c key iv first kind bytes room) (sealRun inWords c key iv first kind bytes room)
         (stepTwoRecord plaintext key iv first (blocksOfRun kind bytes)) ((stepTwo plaintext key iv first (blocksOfRun kind bytes)) .output) room
     pub of-check-run : (key iv : List ℕ) (first : ℕ) (bytes : List ℕ)
-        → Decided (checkRunRows c key iv first bytes) (checkRun c key iv first bytes) (stepTwoRecord ciphertext key iv first (blocksOf bytes))
+        → Decided (checkRunRows c key iv first bytes) (checkRun inWords c key iv first bytes) (stepTwoRecord ciphertext key iv first (blocksOf bytes))
     pub of-join : (l r : RunRecord)
-        → Decided (joinTwoRows l r) (joinTwo l r)
-        (record { first = l .first; count = l .count + r .count; preauthenticator = xorBytes (jump (r .count) (l .preauthenticator)) (r .preauthenticator) })
-    pub of-join-list : (rs : List RunRecord) → Decided (joinListRows rs) (joinList rs) (joinedAll rs)
+        → Decided (joinTwoRows inWords l r) (joinTwo inWords l r)
+        (record {
+          first = l .first;
+          count = l .count + r .count;
+          preauthenticator = wordsOf (xorBytes (jump (r .count) (bytesOf (l .preauthenticator))) (bytesOf (r .preauthenticator)));
+        })
+    pub of-join-list : (rs : List RunRecord) → Decided (joinListRows inWords rs) (joinList inWords rs) (joinedAll inWords rs)
     pub of-close : (key iv : List ℕ) (r : RunRecord)
-        → Decided (closeRows c key iv r) (close c key iv r) (tagFrom c key (r .preauthenticator) (closingMask key iv r))
-    pub of-test : (key iv : List ℕ) (r : RunRecord) (tag : List ℕ) → Decided (testRows c key iv r tag) (test c key iv r tag) tt
+        → Decided (closeRows inWords c key iv r) (close inWords c key iv r) (tagFrom c key (bytesOf (r .preauthenticator)) (closingMask key iv r))
+    pub of-test : (key iv : List ℕ) (r : RunRecord) (tag : List ℕ) → Decided (testRows inWords c key iv r tag) (test inWords c key iv r tag) tt
     pub of-jump : (mask : List ℕ) (distance : ℤ) (room : ℕ)
         → DecidedInto (jumpRows mask distance room) (jumpMask mask distance room) (jumpBy distance mask) (jumpBy distance mask) room
 
@@ -194,7 +200,7 @@ module _ (c : Cipher) (m : Calls) where
   pub record ExpectedOfJoin (s : Setting) (xs : List Segment) (is : List ℕ) (answer : Answer RunRecord) : Type 0 where
     pub neighbours : (i k : ℕ) → is ≡ consecutive i (suc k) → answer ≡ given (recordOfSegments c s xs i (suc k))
     pub empty : is ≡ [] → answer ≡ refused 9
-    pub others : apart (recordsAt xs is) ≡ true → answer ≡ refused 8
+    pub others : apart inWords (recordsAt xs is) ≡ true → answer ≡ refused 8
 
   unfoldable pub Expected : Setting → List Segment → Call → Type 0
   Expected s xs (runAt i room) = ExpectedOfRun s xs i room
@@ -241,6 +247,53 @@ OpensSealed c =
     (key iv message r : List ℕ) (room lent : ℕ) → Block key → Block iv → Bytes message → (seal c key iv message room) .answer ≡ given r
     → length r - 32 ≤ lent → Gives (openSealed c key r lent) message message lent
 
+-- ---- beside demand 2: RECORDS IN WORDS (ticket P12)
+
+-- each byte form has one word form, and the reverse
+pub record OneForm : Type 0 where
+  pub of-bytes : (b : List ℕ) → Block b → Proper (wordsOf b) × (bytesOf (wordsOf b) ≡ b)
+  pub of-words : (w : Words) → Proper w → Block (bytesOf w) × (wordsOf (bytesOf w) ≡ w)
+
+-- a record that its form can hold: its pre-authenticator is a block, and its parts make it again
+pub record Formed (f : Form) (r : f .Record) : Type 0 where
+  pub is-block : Block (f .preauthenticator r)
+  pub is-made : f .make (f .first r) (f .count r) (f .preauthenticator r) ≡ r
+
+unfoldable pub EachFormed : (f : Form) → List (f .Record) → Type 0
+EachFormed f [] = Unit {0}
+EachFormed f (r ∷ rs) = Formed f r × EachFormed f rs
+
+-- a record of one form in another; and what is given, where there is no refusal
+abbrev pub inForm : (f g : Form) → f .Record → g .Record
+inForm f g r = g .make (f .first r) (f .count r) (f .preauthenticator r)
+
+unfoldable pub mapAnswer : {A B : Type 0} → (A → B) → Answer A → Answer B
+mapAnswer t (refused n) = refused n
+mapAnswer t (given a) = given (t a)
+
+abbrev pub mapOutcome : {A B : Type 0} → (A → B) → Outcome A → Outcome B
+mapOutcome t o = record { answer = mapAnswer t (o .answer); reported = o .reported; output = o .output }
+
+-- Every call answers in the form g what it answers in the form f: the same record, in that form; the same tag, length, output and refusal.
+pub record SameIn (c : Cipher) (f g : Form) : Type 0 where
+  pub of-seal-run : (key iv : List ℕ) (first : ℕ) (kind : Kind) (bytes : List ℕ) (room : ℕ) → Bytes key → Bytes iv → Bytes bytes
+      → sealRun g c key iv first kind bytes room ≡ mapOutcome (inForm f g) (sealRun f c key iv first kind bytes room)
+  pub of-check-run : (key iv : List ℕ) (first : ℕ) (bytes : List ℕ) → Bytes key → Bytes iv → Bytes bytes
+      → checkRun g c key iv first bytes ≡ mapAnswer (inForm f g) (checkRun f c key iv first bytes)
+  pub of-join : (l r : f .Record) → Formed f l → Formed f r → joinTwo g (inForm f g l) (inForm f g r) ≡ mapAnswer (inForm f g) (joinTwo f l r)
+  pub of-join-list : (rs : List (f .Record)) → EachFormed f rs → joinList g (map (inForm f g) rs) ≡ mapAnswer (inForm f g) (joinList f rs)
+  pub of-close : (key iv : List ℕ) (r : f .Record) → Formed f r → close g c key iv (inForm f g r) ≡ close f c key iv r
+  pub of-test : (key iv : List ℕ) (r : f .Record) (tag : List ℕ) → Formed f r → test g c key iv (inForm f g r) tag ≡ test f c key iv r tag
+
+-- The records in words are those in bytes, and the reverse. Every record in words, and every one in bytes whose pre-authenticator is a block, is
+-- one that its form can hold.
+pub record WordsAsBytes (c : Cipher) : Type 0 where
+  pub one-form : OneForm
+  pub in-words : SameIn c inBytes inWords
+  pub in-bytes : SameIn c inWords inBytes
+  pub words-formed : (r : RunRecord) → Proper (r .preauthenticator) → Formed inWords r
+  pub bytes-formed : (r : ByteRecord) → Block (r .preauthenticator) → Formed inBytes r
+
 -- ---- beside demand 2: A ZERO START MASK (ticket P3)
 
 -- the zero block through the cipher run backwards, under the zero key
@@ -260,13 +313,13 @@ pub record ZeroMask (c : Cipher) : Type 0 where
   pub of-open : (key sealed : List ℕ) (room : ℕ) → zeroMask c key (ivPart sealed) ≡ true → length key ≡ 16 → notSealed sealed ≡ false
       → Refuses (openSealed c key sealed room) 10 room
   pub of-seal-run : (key iv : List ℕ) (first : ℕ) (kind : Kind) (bytes : List ℕ) (room : ℕ) → zeroMask c key iv ≡ true → length key ≡ 16 → length iv ≡ 16
-      → unalignedRun kind bytes ≡ false → first + length (blocksOfRun kind bytes) ≤ limit → Refuses (sealRun c key iv first kind bytes room) 10 room
+      → unalignedRun kind bytes ≡ false → first + length (blocksOfRun kind bytes) ≤ limit → Refuses (sealRun inWords c key iv first kind bytes room) 10 room
   pub of-check-run : (key iv : List ℕ) (first : ℕ) (bytes : List ℕ) → zeroMask c key iv ≡ true → length key ≡ 16 → length iv ≡ 16 → length bytes % 16 ≡ 0
-      → first + length (blocksOf bytes) ≤ limit → checkRun c key iv first bytes ≡ refused 10
-  pub of-close : (key iv : List ℕ) (r : RunRecord) → zeroMask c key iv ≡ true → length key ≡ 16 → length iv ≡ 16 → r .first + r .count ≤ limit → notWhole r ≡ false
-      → close c key iv r ≡ refused 10
+      → first + length (blocksOf bytes) ≤ limit → checkRun inWords c key iv first bytes ≡ refused 10
+  pub of-close : (key iv : List ℕ) (r : RunRecord) → zeroMask c key iv ≡ true → length key ≡ 16 → length iv ≡ 16 → r .first + r .count ≤ limit → notWhole inWords r ≡ false
+      → close inWords c key iv r ≡ refused 10
   pub of-test : (key iv : List ℕ) (r : RunRecord) (tag : List ℕ) → zeroMask c key iv ≡ true → length key ≡ 16 → length iv ≡ 16 → length tag ≡ 16
-      → r .first + r .count ≤ limit → notWhole r ≡ false → test c key iv r tag ≡ refused 10
+      → r .first + r .count ≤ limit → notWhole inWords r ≡ false → test inWords c key iv r tag ≡ refused 10
 
 -- some rows without those of number n
 unfoldable pub without : ℕ → List (ℕ × Bool) → List (ℕ × Bool)
@@ -282,12 +335,12 @@ pub record AsBefore (c : Cipher) : Type 0 where
       openSealed c key sealed room ≡ outcomeBy (decide (without 10 (openRows c key sealed room)) message) message room
   pub of-seal-run : (key iv : List ℕ) (first : ℕ) (kind : Kind) (bytes : List ℕ) (room : ℕ) → NonzeroMask c key iv
       → let blocks = blocksOfRun kind bytes in
-      sealRun c key iv first kind bytes room
-      ≡ outcomeBy (decide (without 10 (sealRunRows c key iv first kind bytes room)) (runRecord c plaintext key iv first blocks)) ((passFrom c plaintext key iv first blocks) .output) room
+      sealRun inWords c key iv first kind bytes room
+      ≡ outcomeBy (decide (without 10 (sealRunRows c key iv first kind bytes room)) (runRecord inWords c plaintext key iv first blocks)) ((passFrom c plaintext key iv first blocks) .output) room
   pub of-check-run : (key iv : List ℕ) (first : ℕ) (bytes : List ℕ) → NonzeroMask c key iv
-      → checkRun c key iv first bytes ≡ decide (without 10 (checkRunRows c key iv first bytes)) (runRecord c ciphertext key iv first (blocksOf bytes))
-  pub of-close : (key iv : List ℕ) (r : RunRecord) → NonzeroMask c key iv → close c key iv r ≡ decide (without 10 (closeRows c key iv r)) (closingTag c key iv r)
-  pub of-test : (key iv : List ℕ) (r : RunRecord) (tag : List ℕ) → NonzeroMask c key iv → test c key iv r tag ≡ decide (without 10 (testRows c key iv r tag)) tt
+      → checkRun inWords c key iv first bytes ≡ decide (without 10 (checkRunRows c key iv first bytes)) (runRecord inWords c ciphertext key iv first (blocksOf bytes))
+  pub of-close : (key iv : List ℕ) (r : RunRecord) → NonzeroMask c key iv → close inWords c key iv r ≡ decide (without 10 (closeRows inWords c key iv r)) (closingTag inWords c key iv r)
+  pub of-test : (key iv : List ℕ) (r : RunRecord) (tag : List ℕ) → NonzeroMask c key iv → test inWords c key iv r tag ≡ decide (without 10 (testRows inWords c key iv r tag)) tt
 
 -- ---- beside demand 2: THE SIGNED JUMP (ticket P1), of the outcome that the call's contract cites
 
@@ -344,21 +397,21 @@ pub record Done (c : Cipher) (key : List ℕ) (work : Work) (r : RunRecord) (byt
 abbrev pub NoDifference : Cipher → Type 0
 NoDifference c =
     (key : List ℕ) (work : Work) (r q : RunRecord) (bytes text : List ℕ) → Done c key work r bytes → Done c key work q text
-    → (bytes ≡ text) × (close c key (ivOf work) r ≡ close c key (ivOf work) q)
+    → (bytes ≡ text) × (close inWords c key (ivOf work) r ≡ close inWords c key (ivOf work) q)
 
 -- the IV, the runs' ciphertexts and the closing tag are what the call that seals the whole message gives
 abbrev pub SealedWhole : Cipher → Type 0
 SealedWhole c =
-    (key iv message bytes tag : List ℕ) (r : RunRecord) → Done c key (sealing iv message) r bytes → close c key iv r ≡ given tag
+    (key iv message bytes tag : List ℕ) (r : RunRecord) → Done c key (sealing iv message) r bytes → close inWords c key iv r ≡ given tag
     → iv ++ bytes ++ tag ≡ sealedRecord c key iv message
 
 -- checking a run's ciphertext gives the record that sealing it gave
 abbrev pub CheckedAsSealed : Cipher → Type 0
 CheckedAsSealed c =
     (key iv : List ℕ) → Block key → Block iv → (first : ℕ) (kind : Kind) (bytes : List ℕ) (room : ℕ) → Bytes bytes
-    → (r : RunRecord) → (sealRun c key iv first kind bytes room) .answer ≡ given r
-    → checkRun c key iv first (take ((sealRun c key iv first kind bytes room) .reported) ((sealRun c key iv first kind bytes room) .output)) ≡ given r
+    → (r : RunRecord) → (sealRun inWords c key iv first kind bytes room) .answer ≡ given r
+    → checkRun inWords c key iv first (take ((sealRun inWords c key iv first kind bytes room) .reported) ((sealRun inWords c key iv first kind bytes room) .output)) ≡ given r
 
 -- a joined list stays within the limit
 abbrev pub ListWithin : Type 0
-ListWithin = (rs : List RunRecord) (r : RunRecord) → joinList rs ≡ given r → r .first + r .count ≤ limit
+ListWithin = (rs : List RunRecord) (r : RunRecord) → joinList inWords rs ≡ given r → r .first + r .count ≤ limit

@@ -6,7 +6,8 @@ use Prim.Native.Nat.{ℕ, zero, _+_, _-_, _/_, _%_}
 use lib.ListN.{length, take, drop}
 use Rattle.blocks.specs.Bytes.{Bytes, Block, xorBytes, same, zeros, firstBlocks}
 use Rattle.blocks.specs.Gf128.{timesX}
--- document 01's run record, as the code declares it: first, count, preauthenticator
+use Rattle.blocks.specs.Words.{bytesOf, wordsOf}
+-- document 01's run record, as the code declares it: first, count, and the pre-authenticator in two words (ticket P12)
 pub use Rattle.mode.specs.declared.RunRecord.{RunRecord}
 
 -- The cipher's two halves, each run forwards and backwards: key, then block.
@@ -66,6 +67,40 @@ pub record Pass : Type 0 where
   pub preauthenticator : List ℕ
   pub mask : List ℕ
 
+-- A FORM OF RUN RECORDS: how one is made of the number of its first block, its block count and its pre-authenticator, which is a block, and
+-- how these are read from it.
+pub record Form : Type 1 where
+  pub Record : Type 0
+  pub make : ℕ → ℕ → List ℕ → Record
+  pub first : Record → ℕ
+  pub count : Record → ℕ
+  pub preauthenticator : Record → List ℕ
+
+-- in two words, as the calls give and take them
+abbrev pub inWords : Form
+inWords = record {
+  Record = RunRecord;
+  make = λ first count p. record { first = first; count = count; preauthenticator = wordsOf p };
+  first = λ r. r .first;
+  count = λ r. r .count;
+  preauthenticator = λ r. bytesOf (r .preauthenticator);
+}
+
+-- in bytes, as document 01 has them
+pub record ByteRecord : Type 0 where
+  pub first : ℕ
+  pub count : ℕ
+  pub preauthenticator : List ℕ
+
+abbrev pub inBytes : Form
+inBytes = record {
+  Record = ByteRecord;
+  make = λ first count p. record { first = first; count = count; preauthenticator = p };
+  first = λ r. r .first;
+  count = λ r. r .count;
+  preauthenticator = λ r. r .preauthenticator;
+}
+
 module _ (c : Cipher) where
   -- the whole cipher: the second half after the first
   unfoldable pub encrypt : List ℕ → List ℕ → List ℕ
@@ -113,7 +148,7 @@ module _ (c : Cipher) where
   -- pre-authenticator over them alone, begun from zero, with the masks that steps 1 and 2 give there when nothing is cut.
   unfoldable pub recordOf : Source → List ℕ → List ℕ → List (List ℕ) → List (List ℕ) → RunRecord
   recordOf s key iv before these =
-      record { first = length before; count = length these; preauthenticator = (pass s key these ((unbroken s key iv before) .mask) zeroBlock) .preauthenticator }
+      inWords .make (length before) (length these) ((pass s key these ((unbroken s key iv before) .mask) zeroBlock) .preauthenticator)
 
   -- the sealed record of a message: the IV, the ciphertext and the tag
   unfoldable pub sealedRecord : List ℕ → List ℕ → List ℕ → List ℕ

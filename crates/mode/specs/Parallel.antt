@@ -5,8 +5,8 @@ use mathlib.Core.List.{List, [], _∷_, _++_, map}
 use mathlib.Core.Bool.{Bool, true, false}
 use Prim.Native.Nat.{ℕ, zero, suc, _+_, _-_, _/_, _%_, _≤_, _<_}
 use lib.ListN.{length, take, drop, getD, set}
-use Rattle.blocks.specs.Bytes.{concat}
-use Rattle.mode.specs.Mode.{Source, plaintext, ciphertext, RunRecord, ivPart, cipherPart}
+use Rattle.blocks.specs.Bytes.{Bytes, concat}
+use Rattle.mode.specs.Mode.{Source, plaintext, ciphertext, RunRecord, inWords, ivPart, cipherPart}
 use Rattle.mode.specs.Table.{Answer, refused, given, apart, longestMessage, longestSealed}
 use Rattle.mode.specs.Calls.{Kind, middle, last, blocksOfRun, Outcome, outcomeBy, blank, Calls}
 
@@ -56,8 +56,12 @@ pub record Setting : Type 0 where
   pub work : Work
   pub pieces : List (List ℕ)
 
+-- whatever is handed to a call is bytes
 pub record WellFormed (s : Setting) : Type 0 where
   pub key-long : length (s .key) ≡ 16
+  pub key-bytes : Bytes (s .key)
+  pub iv-bytes : Bytes (ivOf (s .work))
+  pub text-bytes : Bytes (textOf (s .work))
   pub fits : Fits (s .work)
   pub cut : Cut (lastKind (s .work)) (s .pieces)
   pub pieces-are : concat (s .pieces) ≡ textOf (s .work)
@@ -94,7 +98,7 @@ runsIn (recorded rs r bytes) = rs
 
 -- the record in a filled place (an empty one, from which no call of the list takes one, has a blank)
 unfoldable pub recordIn : Segment → RunRecord
-recordIn (pending r) = blank
+recordIn (pending r) = blank inWords
 recordIn (recorded rs r bytes) = r
 
 unfoldable pub bytesIn : Segment → List ℕ
@@ -150,9 +154,9 @@ recordsAt xs is = map (λ i. recordIn (segment xs i)) is
 -- one or more as a list; the empty list; any other choice of filled places where the table's condition for 8 holds. No other.
 unfoldable pub Allowed : List Segment → Call → Type 0
 Allowed xs (runAt i room) = (i < length xs) × (isRecorded (segment xs i) ≡ false)
-Allowed xs (joinPair i j) = AllRecorded xs (i ∷ j ∷ []) × ((j ≡ suc i) ⊎ (apart (recordsAt xs (i ∷ j ∷ [])) ≡ true))
+Allowed xs (joinPair i j) = AllRecorded xs (i ∷ j ∷ []) × ((j ≡ suc i) ⊎ (apart inWords (recordsAt xs (i ∷ j ∷ [])) ≡ true))
 Allowed xs (joinMany is) =
-    AllRecorded xs is × (((i : ℕ) × (k : ℕ) × (is ≡ consecutive i (suc k))) ⊎ ((is ≡ []) ⊎ (apart (recordsAt xs is) ≡ true)))
+    AllRecorded xs is × (((i : ℕ) × (k : ℕ) × (is ≡ consecutive i (suc k))) ⊎ ((is ≡ []) ⊎ (apart inWords (recordsAt xs is) ≡ true)))
 
 -- k segments from segment i give way to one, which has the joined record and all their runs and bytes; a refused call leaves them
 unfoldable pub mergeBy : Answer RunRecord → List Segment → ℕ → ℕ → List Segment

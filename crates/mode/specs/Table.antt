@@ -8,7 +8,7 @@ use lib.ListN.{length}
 use lib.IntN.{ℤ, natAbs}
 use lib.Dec.{eqb, ltb}
 use Rattle.blocks.specs.Bytes.{same}
-use Rattle.mode.specs.Mode.{Cipher, RunRecord, zeroBlock, startMask}
+use Rattle.mode.specs.Mode.{Cipher, Form, zeroBlock, startMask}
 
 -- a refusal, by document 01's number, or what the call gives
 pub data Answer (A : Type 0) : Type 0 where
@@ -81,28 +81,28 @@ unfoldable pub beyond : ℕ → ℕ → Bool
 beyond first count = ltb limit (first + count)
 
 -- 4: of any record handed in
-unfoldable pub anyBeyond : List RunRecord → Bool
-anyBeyond [] = false
-anyBeyond (r ∷ rs) = beyond (r .first) (r .count) || anyBeyond rs
+unfoldable pub anyBeyond : (f : Form) → List (f .Record) → Bool
+anyBeyond f [] = false
+anyBeyond f (r ∷ rs) = beyond (f .first r) (f .count r) || anyBeyond f rs
 
 -- 4: a jump of more blocks than the limit, either way
 unfoldable pub tooFar : ℤ → Bool
 tooFar distance = ltb limit (natAbs distance)
 
 -- 8: two records in turn where the left's first plus count is not the right's first
-unfoldable pub apart : List RunRecord → Bool
-apart [] = false
-apart (r ∷ []) = false
-apart (l ∷ r ∷ rs) = not (eqb (l .first + l .count) (r .first)) || apart (r ∷ rs)
+unfoldable pub apart : (f : Form) → List (f .Record) → Bool
+apart f [] = false
+apart f (r ∷ []) = false
+apart f (l ∷ r ∷ rs) = not (eqb (f .first l + f .count l) (f .first r)) || apart f (r ∷ rs)
 
 -- 9: an empty list
-unfoldable pub none : List RunRecord → Bool
+unfoldable pub none : {R : Type 0} → List R → Bool
 none [] = true
 none (r ∷ rs) = false
 
 -- 9: a record that does not start at 0 or has no block
-unfoldable pub notWhole : RunRecord → Bool
-notWhole r = not (eqb (r .first) 0) || eqb (r .count) 0
+unfoldable pub notWhole : (f : Form) → f .Record → Bool
+notWhole f r = not (eqb (f .first r) 0) || eqb (f .count r) 0
 
 -- 10 (ticket P3): the start mask is still zero after its replacement, so that nothing would be added to the blocks
 unfoldable pub zeroMask : Cipher → List ℕ → List ℕ → Bool

@@ -3,9 +3,11 @@
 // here is the join of two run records.
 pub mod power;
 
+use blocks::words::Words;
 use power::LastPower;
 ghost use mathlib.Core.Path.{_≡_};
 ghost use Prim.Native.Nat.{_+_};
+ghost use Rattle.mode.specs.Mode.{inWords};
 ghost use Rattle.mode.specs.Table.{firstRow};
 ghost use Rattle.mode.specs.Calls.{joined, joinTwo, joinTwoRows, recordAnswerOf, refusedRecord};
 ghost use Rattle.mode.specs.Powers.{Keeps, Joinable, joinKeeping};
@@ -18,11 +20,11 @@ pub const LONGEST_MESSAGE: usize = 16 * LIMIT as usize - 1;
 
 pub const LONGEST_SEALED: usize = 16 * LIMIT as usize + 32;
 
-// Document 01's run record: the number of the run's first block, its block count, and the pre-authenticator of the run alone.
+// Document 01's run record: the number of the run's first block, its block count, and the pre-authenticator of the run alone, in two words.
 pub struct RunRecord {
     pub first: u32,
     pub count: u32,
-    pub preauthenticator: [u8; 16],
+    pub preauthenticator: Words,
 }
 
 // An answer beside a lent output: document 01's number of the refusal, or 0, and the number of answer bytes.
@@ -67,7 +69,7 @@ impl RunRecord {
     // The first row of the table that holds of this run and its right neighbour, or 0: 4 where either is beyond the limit, 8 where they
     // do not adjoin.
     fn join_refusal(self, right: RunRecord) -> u8
-        ensures { λ n. ⌜ n ≡ firstRow (joinTwoRows self right) ⌝ }
+        ensures { λ n. ⌜ n ≡ firstRow (joinTwoRows inWords self right) ⌝ }
     {
         let left_end = self.end();
         let right_end = right.end();
@@ -84,14 +86,14 @@ impl RunRecord {
     }
 
     // The record of this run and its right neighbour, with x to the neighbour's count handed in.
-    fn join_by(self, right: RunRecord, power: [u8; 16]) -> RunRecord
+    fn join_by(self, right: RunRecord, power: Words) -> RunRecord
         requires { ⌜ Joinable self right power ⌝ }
-        ensures { λ r. ⌜ r ≡ joined self right ⌝ }
+        ensures { λ r. ⌜ r ≡ joined inWords self right ⌝ }
     {
         let left = self.preauthenticator;
         let moved = blocks::gf128::multiply(power, left);
         let added = right.preauthenticator;
-        let preauthenticator = blocks::block::xor(moved, added);
+        let preauthenticator = blocks::words::xor(moved, added);
         RunRecord {
             first: self.first,
             count: self.count + right.count,
@@ -118,7 +120,7 @@ impl RunRecord {
 
     // The record of this run and its right neighbour, or a refusal.
     pub fn join(self, right: RunRecord) -> RecordAnswer
-        ensures { λ a. ⌜ a ≡ recordAnswerOf (joinTwo self right) ⌝ }
+        ensures { λ a. ⌜ a ≡ recordAnswerOf (joinTwo inWords self right) ⌝ }
     {
         let joined = self.join_keeping(right, LastPower::none());
         joined.answer
@@ -134,7 +136,7 @@ pub fn refused(number: u8) -> RecordAnswer
         run: RunRecord {
             first: 0,
             count: 0,
-            preauthenticator: [0u8; 16],
+            preauthenticator: Words { high: 0, low: 0 },
         },
     }
 }

@@ -1,4 +1,5 @@
 // The power of x that is kept from one join to the next (ticket P2).
+use blocks::words::Words;
 ghost use mathlib.Core.Path.{_≡_};
 ghost use Rattle.mode.specs.Powers.{noPower, Keeps, workedOut, powerFor};
 
@@ -6,7 +7,7 @@ ghost use Rattle.mode.specs.Powers.{noPower, Keeps, workedOut, powerFor}
 pub struct LastPower {
     pub some: bool,
     pub count: u32,
-    pub power: [u8; 16],
+    pub power: Words,
     pub total: u64,
 }
 
@@ -18,7 +19,7 @@ impl LastPower {
         LastPower {
             some: false,
             count: 0,
-            power: [0u8; 16],
+            power: Words { high: 0, low: 0 },
             total: 0,
         }
     }

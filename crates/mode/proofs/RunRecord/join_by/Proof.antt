@@ -1,6 +1,6 @@
 -- The product with the power is the jump by the right one's count.
 use borrow.Author.Needs.{needs}
-use Rattle.blocks.proofs.Array.{block-by}
+use Rattle.blocks.proofs.Bridge.{proper-by}
 use Rattle.mode.proofs.Powers.{joined-by}
 use Rattle.mode.proofs.RunRecord.join_by.Statement.{statement}
 use Rattle.mode.proofs.RunRecord.join_by.Tie as tie
@@ -16,10 +16,11 @@ add-t8 c = search needs
 
 returns : tie.Need-returns
 returns c =
-    let s = c .before .before .before .before .before .before in
+    let s = c .before .before .before in
     let a = s .args in
-    joined-by (a .self) (a .right) (a .power) (c .before .before .before .before .multiply .result) (c .before .before .xor .result)
-    (block-by (a .self .preauthenticator) (search needs) (λ i. search needs)) (s .pre) (c .before .before .before .before .multiply .ensures) (c .before .before .xor .ensures)
+    let m = c .before .before .multiply in
+    let x = c .before .xor in
+    joined-by (a .self) (a .right) (a .power) (m .result) (x .result) (proper-by (x .result) (search needs) (search needs)) (s .pre) (m .ensures) (x .ensures)
 
 pub join-by-spec : {M : Type 1} → statement M
 join-by-spec = tie.close (tie.spec multiply-requires xor-requires add-t8 returns)

@@ -3,6 +3,8 @@ use borrow.Author.Needs.{needs}
 use mathlib.Core.Path.{_≡_, sym, ap, _∙_}
 use Prim.Native.Nat.{_+_, _≤_}
 use native.Mathlib.Omega.{arith}
+use Rattle.blocks.specs.Words.{bytesOf}
+use Rattle.mode.specs.Mode.{inWords}
 use Rattle.mode.specs.Table.{limit, firstRow}
 use Rattle.mode.specs.Calls.{joinTwoRows}
 use Rattle.mode.specs.declared.power.LastPower.{LastPower}
@@ -30,11 +32,11 @@ join-by-requires : tie.Need-join-by-requires
 join-by-requires c κs =
     let s = c .before .before .before .before in
     let a = s .args in
-    let z : 0 ≡ firstRow (joinTwoRows (a .self) (a .right)) = sym (c .before .before .if1 .left) ∙ c .before .before .before .join-refusal .ensures in
+    let z : 0 ≡ firstRow (joinTwoRows inWords (a .self) (a .right)) = sym (c .before .before .if1 .left) ∙ c .before .before .before .join-refusal .ensures in
     let h : a .self .count + a .right .count ≤ limit = join-counts (a .self) (a .right) z in
     record {
       counts = omega arith;
-      right = ap (λ (k : LastPower). k .power) (c .before .for-count .ensures) ∙ power-right (a .last) (a .right .count) (s .pre);
+      right = ap (λ (k : LastPower). bytesOf (k .power)) (c .before .for-count .ensures) ∙ power-right (a .last) (a .right .count) (s .pre);
     }
 
 returns-2 : tie.Need-returns-2

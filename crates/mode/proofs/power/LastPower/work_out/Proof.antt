@@ -2,9 +2,11 @@
 use borrow.Author.Needs.{needs}
 use mathlib.Core.Path.{ap}
 use mathlib.Core.Bool.{true}
-use mathlib.Core.List.{List}
 use Prim.Native.Nat.{ℕ, _+_}
-use Rattle.blocks.specs.Gf128.{signed}
+use lib.IntN.{pos}
+use Rattle.blocks.specs.Gf128.{power, signed}
+use Rattle.blocks.specs.declared.words.Words.{Words}
+use Rattle.blocks.proofs.Bridge.{proper-by, words-of}
 use Rattle.mode.specs.Powers.{workedOut}
 use Rattle.mode.proofs.power.LastPower.work_out.Statement.{statement}
 use Rattle.mode.proofs.power.LastPower.work_out.Tie as tie
@@ -19,7 +21,9 @@ returns : tie.Need-returns
 unfolding workedOut signed
 returns c =
     let a = c .before .before .args in
-    ap (λ (p : List ℕ). record { some = true; count = a .count; power = p; total = a .self .total + 1 }) (c .before .power .ensures)
+    let w = c .before .power .result in
+    ap (λ (p : Words). record { some = true; count = a .count; power = p; total = a .self .total + 1 })
+    (words-of w (power (pos (a .count))) (proper-by w (search needs) (search needs)) (c .before .power .ensures))
 
 pub work-out-spec : {M : Type 1} → statement M
 work-out-spec = tie.close (tie.spec power-requires add-t4 returns)
