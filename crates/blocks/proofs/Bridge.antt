@@ -1,19 +1,21 @@
 -- The two forms of a block. Each byte form has one word form, and the reverse; and two words have the number of their bytes.
 use mathlib.Core.Path.{_≡_, refl, sym, ap, ap₂, subst, _∙_}
-use mathlib.Core.List.{List, _++_}
-use Prim.Native.Nat.{ℕ, _+_, _*_, _^_, _<_}
+use mathlib.Core.List.{List, [], _∷_, _++_}
+use Prim.Native.Nat.{ℕ, _+_, _*_, _/_, _%_, _^_, _<_}
 use native.Mathlib.Nat.{mod-eq-of-lt}
 use native.Mathlib.Omega.{arith}
 use mir.Val.{Fits}
 use mir.Syntax.{w64}
 use lib.Arith.{digits-lt}
 use lib.Bits.{bitXor, xor-block, xor-lt}
-use lib.ListN.{length, take, drop, length-append, length-drop, take-append-drop}
+use lib.ListN.{length, getD, take, drop, length-append, length-drop, take-append-drop}
 use lib.Seq.{take-at, drop-at, length-take-le}
 use Rattle.blocks.specs.Bytes.{Bytes, Block, xorBytes}
 use Rattle.blocks.specs.Gf128.{num, lowBytes}
+use Rattle.blocks.specs.Tab.{tab}
 use Rattle.blocks.specs.Words.{Words, Proper, bytesOf, wordsOf}
 use Rattle.blocks.proofs.Chunks.{bytes-take, bytes-drop, bytes-append}
+use Rattle.blocks.proofs.Tab.{tab-self}
 use Rattle.blocks.proofs.XorBytes.{block-xor}
 use Rattle.blocks.proofs.Num.{num-lt, num-injective, same-block, length-lowBytes, bytes-lowBytes, num-low-bytes, num-append, num-xor}
 
@@ -76,6 +78,30 @@ words-bytes w h =
 -- so words that have these bytes are the word form of them
 pub words-of : (w : Words) (b : List ℕ) → Proper w → bytesOf w ≡ b → w ≡ wordsOf b
 words-of w b h e = sym (words-bytes w h) ∙ ap wordsOf e
+
+-- ---- as the code does it
+
+-- words that are the numbers of the two halves, byte by byte
+pub words-by : (b : List ℕ) (h l : ℕ) → Block b → h ≡ num (take 8 (tab 16 (λ i. getD b i 0))) → l ≡ num (drop 8 (tab 16 (λ i. getD b i 0)))
+    → bytesOf (record { high = h; low = l }) ≡ b
+unfolding wordsOf
+words-by b h l hb eh el =
+    let e = tab-self 16 b (hb .long) in
+    ap bytesOf
+    (same-words (record { high = h; low = l }) (wordsOf b) (eh ∙ ap (λ (x : List ℕ). num (take 8 x)) e) (el ∙ ap (λ (x : List ℕ). num (drop 8 x)) e))
+    ∙ bytes-words b hb
+
+-- the eight bytes of a word, by shifts
+abbrev pub shifts : ℕ → List ℕ
+shifts v = v / 2 ^ 56 % 256 ∷ v / 2 ^ 48 % 256 ∷ v / 2 ^ 40 % 256 ∷ v / 2 ^ 32 % 256 ∷ v / 2 ^ 24 % 256 ∷ v / 2 ^ 16 % 256 ∷ v / 2 ^ 8 % 256 ∷ v % 256 ∷ []
+
+shifts-low : (v : ℕ) → shifts v ≡ lowBytes 8 v
+unfolding lowBytes
+shifts-low v = let e : v / 1 ≡ v = omega arith in rw e
+
+pub bytes-by-shifts : (w : Words) → shifts (w .high) ++ shifts (w .low) ≡ bytesOf w
+unfolding bytesOf
+bytes-by-shifts w = ap₂ (λ (x y : List ℕ). x ++ y) (shifts-low (w .high)) (shifts-low (w .low))
 
 -- ---- two words as one number
 
