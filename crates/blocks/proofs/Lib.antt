@@ -18,6 +18,7 @@ pub mod JumpBy
 pub mod Sign
 pub mod Num
 pub mod Bridge
+pub mod WordsX
 pub mod Product
 pub mod Horner
 pub mod Spread
