@@ -1,91 +1,105 @@
--- A product from the top bit down, as the code does it: of r and n more bits of a comes r x^n + a b.
+-- A product from the top bit down, as the code does it in words: of r and n more bits of a comes r x^n + a b.
 use mathlib.Core.Path.{_≡_, refl, sym, ap, ap₂, _∙_}
-use mathlib.Core.List.{List}
-use Prim.Native.Nat.{ℕ, suc, _+_, _*_, _/_, _%_, _≤_, _<_}
-use native.Mathlib.Nat.{zero-mul, one-mul, le-of-eq}
+use Prim.Native.Nat.{ℕ, suc, _+_, _*_, _-_, _/_, _%_, _^_, _≤_, _<_}
+use native.Mathlib.Nat.{mul-add, mul-assoc}
 use native.Mathlib.Omega.{arith}
-use lib.Bits.{bitXor, xor-self}
-use lib.ListN.{length, getD, take}
-use lib.Seq.{take-all}
-use Rattle.blocks.specs.Bytes.{Block, xorBytes}
+use lib.Bits.{bitXor, xor-block, xor-lt, xor-zero-r}
+use mir.Syntax.{w64}
+use mir.Val.{Fits}
 use Rattle.blocks.specs.Field.{step, steps, times, mul}
-use Rattle.blocks.specs.Gf128.{timesX, num, product}
+use Rattle.blocks.specs.Gf128.{timesX, num, lowBytes, product}
+use Rattle.blocks.specs.Words.{Words, Proper, bytesOf}
 use Rattle.blocks.proofs.Xor.{xor-assoc}
-use Rattle.blocks.proofs.Field.{step-linear, times-left}
+use Rattle.blocks.proofs.Linear.{at-zero, bit-lt}
+use Rattle.blocks.proofs.Field.{step-linear, steps-linear, times-left}
 use Rattle.blocks.proofs.Square.{times-more}
-use Rattle.blocks.proofs.TimesX.{block-timesX}
-use Rattle.blocks.proofs.Num.{num-xor, num-timesX, num-take}
+use Rattle.blocks.proofs.Num.{num-timesX}
+use Rattle.blocks.proofs.Bridge.{block-bytesOf, num-bytesOf}
 use Rattle.blocks.proofs.Product.{product-is}
+use Rattle.blocks.proofs.Jump.{one-bit-less}
 
--- r x + (bit) b
-pub bit-none : (r b : List ℕ) (bit : ℕ) → Block r → bit ≡ 0 → num (timesX r) ≡ bitXor (bit * num b) (step 127 0x87 (num r))
-bit-none r b bit hr e =
-    num-timesX r hr ∙ sym (ap (λ (z : ℕ). bitXor z (step 127 0x87 (num r))) (ap (λ (z : ℕ). z * num b) e ∙ zero-mul (num b)))
+-- ---- a bit: r x + (bit) b
 
-pub bit-one : (r b : List ℕ) (bit : ℕ) → Block r → Block b → bit ≡ 1 → num (xorBytes b (timesX r)) ≡ bitXor (bit * num b) (step 127 0x87 (num r))
-bit-one r b bit hr hb e =
-    num-xor b (timesX r) hb (block-timesX r (hr .long))
-    ∙ ap₂ bitXor (sym (ap (λ (z : ℕ). z * num b) e ∙ one-mul (num b))) (num-timesX r hr)
+pub bit-fits : (bit x : ℕ) → bit < 2 → Fits w64 x → Fits w64 (bit * x)
+bit-fits bit x h f = record { fits = bit-lt (2 ^ 64) bit x h (f .fits) }
+
+bit-words : (bit h l : ℕ) → bit * h * 2 ^ 64 + bit * l ≡ bit * (h * 2 ^ 64 + l)
+bit-words bit h l = sym (mul-add bit (h * 2 ^ 64) l ∙ ap (λ (z : ℕ). z + bit * l) (sym (mul-assoc bit h (2 ^ 64))))
+
+pub bit-taken : (bit : ℕ) (r b t : Words) → bit < 2 → Proper b → Proper t → bytesOf t ≡ timesX (bytesOf r)
+    → num (bytesOf (record { high = bitXor (bit * b .high) (t .high); low = bitXor (bit * b .low) (t .low) }))
+    ≡ bitXor (bit * num (bytesOf b)) (step 127 0x87 (num (bytesOf r)))
+bit-taken bit r b t k hb ht e =
+    let bh : bit * b .high < 2 ^ 64 = bit-lt (2 ^ 64) bit (b .high) k (hb .high) in
+    let bl : bit * b .low < 2 ^ 64 = bit-lt (2 ^ 64) bit (b .low) k (hb .low) in
+    num-bytesOf (record { high = bitXor (bit * b .high) (t .high); low = bitXor (bit * b .low) (t .low) })
+    (record { high = xor-lt 64 (bit * b .high) (t .high) bh (ht .high); low = xor-lt 64 (bit * b .low) (t .low) bl (ht .low) })
+    ∙ sym (xor-block 64 (bit * b .high) (t .high) (bit * b .low) (t .low) bl (ht .low))
+    ∙ ap₂ bitXor (bit-words bit (b .high) (b .low) ∙ ap (λ (z : ℕ). bit * z) (sym (num-bytesOf b hb)))
+    (sym (num-bytesOf t ht) ∙ ap num e ∙ num-timesX (bytesOf r) (block-bytesOf r))
+
+-- ---- a word, bit by bit
 
 -- one bit more
-bit-more : (n a y r₀ r s b : ℕ) → a % 2 ≡ y → r ≡ bitXor (times 127 0x87 n (a / 2) b) (steps 127 0x87 n r₀) → s ≡ bitXor (y * b) (step 127 0x87 r)
+bit-more : (n a r₀ r s b : ℕ) → r ≡ bitXor (times 127 0x87 n (a / 2) b) (steps 127 0x87 n r₀) → s ≡ bitXor (a % 2 * b) (step 127 0x87 r)
     → s ≡ bitXor (times 127 0x87 (suc n) a b) (steps 127 0x87 (suc n) r₀)
 unfolding times steps
-bit-more n a y r₀ r s b e h g =
+bit-more n a r₀ r s b h g =
     let t = times 127 0x87 n (a / 2) b in
     let u = steps 127 0x87 n r₀ in
-    g ∙ ap₂ (λ (z w : ℕ). bitXor (z * b) (step 127 0x87 w)) (sym e) h ∙ ap (bitXor (a % 2 * b)) (step-linear 127 0x87 t u)
+    g ∙ ap (λ (w : ℕ). bitXor (a % 2 * b) (step 127 0x87 w)) h ∙ ap (bitXor (a % 2 * b)) (step-linear 127 0x87 t u)
     ∙ sym (xor-assoc (a % 2 * b) (step 127 0x87 t) (step 127 0x87 u))
 
--- a byte's eight bits, from the top
-module _ (v b r₀ r₁ r₂ r₃ r₄ r₅ r₆ r₇ r₈ : ℕ) where
-  -- the r that stands after the n top bits of v, of which a is the number
-  abbrev After : ℕ → ℕ → ℕ → Type 0
-  After n a r = r ≡ bitXor (times 127 0x87 n a b) (steps 127 0x87 n r₀)
+-- what r₀ has become after all bits of v but `left`
+abbrev pub After : ℕ → ℕ → ℕ → ℕ → ℕ → Type 0
+After v b r₀ left r = r ≡ bitXor (times 127 0x87 (64 - left) (v / 2 ^ left) b) (steps 127 0x87 (64 - left) r₀)
 
-  pub byte-more : v < 256
-      → r₁ ≡ bitXor ((v / 128) * b) (step 127 0x87 r₀)
-      → r₂ ≡ bitXor ((v / 64 % 2) * b) (step 127 0x87 r₁)
-      → r₃ ≡ bitXor ((v / 32 % 2) * b) (step 127 0x87 r₂)
-      → r₄ ≡ bitXor ((v / 16 % 2) * b) (step 127 0x87 r₃)
-      → r₅ ≡ bitXor ((v / 8 % 2) * b) (step 127 0x87 r₄)
-      → r₆ ≡ bitXor ((v / 4 % 2) * b) (step 127 0x87 r₅)
-      → r₇ ≡ bitXor ((v / 2 % 2) * b) (step 127 0x87 r₆)
-      → r₈ ≡ bitXor ((v % 2) * b) (step 127 0x87 r₇)
-      → After 8 v r₈
-  unfolding times steps
-  byte-more h e₁ e₂ e₃ e₄ e₅ e₆ e₇ e₈ =
-      let f₁ : After 1 ((((((((v / 2) / 2) / 2) / 2) / 2) / 2) / 2)) r₁ = bit-more 0 ((((((((v / 2) / 2) / 2) / 2) / 2) / 2) / 2)) (v / 128) r₀ r₀ r₁ b (omega arith) refl e₁ in
-      let f₂ : After 2 (((((((v / 2) / 2) / 2) / 2) / 2) / 2)) r₂ = bit-more 1 (((((((v / 2) / 2) / 2) / 2) / 2) / 2)) (v / 64 % 2) r₀ r₁ r₂ b (omega arith) f₁ e₂ in
-      let f₃ : After 3 ((((((v / 2) / 2) / 2) / 2) / 2)) r₃ = bit-more 2 ((((((v / 2) / 2) / 2) / 2) / 2)) (v / 32 % 2) r₀ r₂ r₃ b (omega arith) f₂ e₃ in
-      let f₄ : After 4 (((((v / 2) / 2) / 2) / 2)) r₄ = bit-more 3 (((((v / 2) / 2) / 2) / 2)) (v / 16 % 2) r₀ r₃ r₄ b (omega arith) f₃ e₄ in
-      let f₅ : After 5 ((((v / 2) / 2) / 2)) r₅ = bit-more 4 ((((v / 2) / 2) / 2)) (v / 8 % 2) r₀ r₄ r₅ b (omega arith) f₄ e₅ in
-      let f₆ : After 6 (((v / 2) / 2)) r₆ = bit-more 5 (((v / 2) / 2)) (v / 4 % 2) r₀ r₅ r₆ b (omega arith) f₅ e₆ in
-      let f₇ : After 7 ((v / 2)) r₇ = bit-more 6 ((v / 2)) (v / 2 % 2) r₀ r₆ r₇ b (omega arith) f₆ e₇ in
-      let f₈ : After 8 (v) r₈ = bit-more 7 (v) (v % 2) r₀ r₇ r₈ b (omega arith) f₇ e₈ in
-      f₈
+pub after-none : (v b r₀ : ℕ) → After v b r₀ 64 r₀
+unfolding times steps
+after-none v b r₀ = refl
 
--- ---- the loop: r is b times the first i bytes of a
+pub after-more : (v b r₀ left r s : ℕ) → 0 < left → left ≤ 64 → After v b r₀ left r → s ≡ bitXor (v / 2 ^ (left - 1) % 2 * b) (step 127 0x87 r)
+    → After v b r₀ (left - 1) s
+after-more v b r₀ left r s h l e f =
+    let n = 64 - left in
+    let a = v / 2 ^ (left - 1) in
+    let g : suc n ≡ 64 - (left - 1) = omega arith in
+    bit-more n a r₀ r s b (e ∙ ap (λ (z : ℕ). bitXor (times 127 0x87 n z b) (steps 127 0x87 n r₀)) (sym (one-bit-less v left h))) f
+    ∙ ap (λ (m : ℕ). bitXor (times 127 0x87 m a b) (steps 127 0x87 m r₀)) g
 
--- none of the bits so far is set
-pub product-none : (a : List ℕ) (i b : ℕ) → num (take i a) ≡ 0 → 0 ≡ times 127 0x87 (i * 8) (num (take i a)) b
-product-none a i b e =
-    sym (ap (λ (z : ℕ). times 127 0x87 (i * 8) z b) e ∙ times-left 127 0x87 (i * 8) b 0 0 ∙ xor-self (times 127 0x87 (i * 8) 0 b))
+pub after-all : (v b r₀ left r : ℕ) → left ≡ 0 → After v b r₀ left r → r ≡ bitXor (times 127 0x87 64 v b) (steps 127 0x87 64 r₀)
+after-all v b r₀ left r z e =
+    let d : v / 1 ≡ v = omega arith in
+    e ∙ ap (λ (n : ℕ). bitXor (times 127 0x87 (64 - n) (v / 2 ^ n) b) (steps 127 0x87 (64 - n) r₀)) z
+    ∙ ap (λ (a : ℕ). bitXor (times 127 0x87 64 a b) (steps 127 0x87 64 r₀)) d
 
-pub product-more : (a : List ℕ) (i r t b : ℕ) → i < length a → getD a i 0 < 256 → r ≡ times 127 0x87 (i * 8) (num (take i a)) b
-    → t ≡ bitXor (times 127 0x87 8 (getD a i 0) b) (steps 127 0x87 8 r)
-    → t ≡ times 127 0x87 ((i + 1) * 8) (num (take (i + 1) a)) b
-product-more a i r t b h k e f =
-    let g : i * 8 + 8 ≡ (i + 1) * 8 = omega arith in
-    f ∙ ap (λ (z : ℕ). bitXor (times 127 0x87 8 (getD a i 0) b) (steps 127 0x87 8 z)) e
-    ∙ sym (times-more 127 0x87 8 (i * 8) (num (take i a)) (getD a i 0) b k)
-    ∙ ap₂ (λ (n z : ℕ). times 127 0x87 n z b) g (sym (num-take a i h))
+-- ---- two words
 
-pub product-all : (a b r : List ℕ) (i : ℕ) → Block a → Block b → Block r → i ≤ 16 → 16 ≤ i → num r ≡ times 127 0x87 (i * 8) (num (take i a)) (num b)
-    → r ≡ product a b
+abbrev zero-words : Words
+zero-words = record { high = 0; low = 0 }
+
+num-zero : num (bytesOf zero-words) ≡ 0
+unfolding bytesOf num lowBytes
+num-zero = refl
+
+-- a word of zero
+pub word-none : (v b : ℕ) → v ≡ 0 → num (bytesOf zero-words) ≡ times 127 0x87 64 v b
+word-none v b e = num-zero ∙ sym (ap (λ (a : ℕ). times 127 0x87 64 a b) e ∙ at-zero (λ a. times 127 0x87 64 a b) (times-left 127 0x87 64 b))
+
+-- the upper word, from nothing
+pub word-first : (v b q : ℕ) → q ≡ bitXor (times 127 0x87 64 v b) (steps 127 0x87 64 (num (bytesOf zero-words))) → q ≡ times 127 0x87 64 v b
+word-first v b q e =
+    e ∙ ap (bitXor (times 127 0x87 64 v b)) (ap (steps 127 0x87 64) num-zero ∙ at-zero (steps 127 0x87 64) (steps-linear 127 0x87 64))
+    ∙ xor-zero-r (times 127 0x87 64 v b)
+
+-- and the lower one
+pub product-words : (a b u q : Words) → Proper a → num (bytesOf u) ≡ times 127 0x87 64 (a .high) (num (bytesOf b))
+    → num (bytesOf q) ≡ bitXor (times 127 0x87 64 (a .low) (num (bytesOf b))) (steps 127 0x87 64 (num (bytesOf u)))
+    → bytesOf q ≡ product (bytesOf a) (bytesOf b)
 unfolding mul
-product-all a b r i ha hb hr l h e =
-    let z : i ≡ 16 = omega arith in
-    product-is a b r hb hr
-    (e ∙ ap (λ (n : ℕ). times 127 0x87 (n * 8) (num (take n a)) (num b)) z
-    ∙ ap (λ (x : List ℕ). times 127 0x87 128 (num x) (num b)) (take-all 16 a (le-of-eq (ha .long))))
+product-words a b u q ha eu eq =
+    let n = num (bytesOf b) in
+    product-is (bytesOf a) (bytesOf b) (bytesOf q) (block-bytesOf b) (block-bytesOf q)
+    (eq ∙ ap (λ (z : ℕ). bitXor (times 127 0x87 64 (a .low) n) (steps 127 0x87 64 z)) eu
+    ∙ sym (times-more 127 0x87 64 64 (a .high) (a .low) n (ha .low))
+    ∙ ap (λ (z : ℕ). times 127 0x87 128 z n) (sym (num-bytesOf a ha)))
