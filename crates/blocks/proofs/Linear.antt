@@ -6,6 +6,7 @@ use native.Mathlib.Omega.{arith}
 use lib.Arith.{lt-one}
 use lib.Bits.{bitXor, differ, xor-self, xor-zero-r, xor-block, xor-shifted}
 use lib.Dec.{T, eqb}
+use lib.Pow.{pow-pos}
 use Rattle.blocks.proofs.Test.{all, equal-below}
 use Rattle.blocks.proofs.Xor.{two-pos, xor-swap, xor-odd}
 
@@ -26,9 +27,13 @@ linear-xor f g hf hg x y = ap₂ bitXor (hf x y) (hg x y) ∙ xor-swap (f x) (f 
 pub linear-of : (f g : ℕ → ℕ) → Linear f → Linear g → Linear (λ x. f (g x))
 linear-of f g hf hg x y = ap f (hg x y) ∙ hf (g x) (g y)
 
+-- k places up
+pub places : (k : ℕ) → Linear (λ x. x * 2 ^ k)
+places k x y =
+    sym (sym (ap₂ bitXor (add-zero (x * 2 ^ k)) (add-zero (y * 2 ^ k))) ∙ xor-block k x y 0 0 (pow-pos k) (pow-pos k) ∙ add-zero (bitXor x y * 2 ^ k))
+
 pub double : Linear (λ x. x * 2)
-double x y =
-    sym (sym (ap₂ bitXor (add-zero (x * 2)) (add-zero (y * 2))) ∙ xor-block 1 x y 0 0 two-pos two-pos ∙ add-zero (bitXor x y * 2))
+double = places 1
 
 -- a bit, times a constant
 pub scale-bit : (k x y : ℕ) → x < 2 → y < 2 → differ x y * k ≡ bitXor (x * k) (y * k)

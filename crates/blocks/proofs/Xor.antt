@@ -1,10 +1,10 @@
--- Exclusive or of numbers: it associates, cancels, and goes through halves and low bits.
+-- Exclusive or of numbers: it associates, cancels, and goes through halves, low bits and masks.
 use mathlib.Core.Path.{_≡_, refl, sym, ap, ap₂, _∙_}
 use Prim.Native.Nat.{ℕ, zero, suc, _+_, _*_, _/_, _%_, _<_, suc-le-suc, zero-le}
-use native.Mathlib.Nat.{mod-lt}
+use native.Mathlib.Nat.{mod-lt, div-add-mod'}
 use native.Mathlib.Omega.{arith}
 use lib.Arith.{bin-ind, digits-div, digits-mod}
-use lib.Bits.{bitXor, differ, xor-step, xor-comm, xor-self, xor-lt}
+use lib.Bits.{bitXor, bitAnd, differ, xor-step, xor-comm, xor-self, xor-lt, xor-mod, and-shr, and-mod}
 
 pub two-pos : 0 < 2
 two-pos = suc-le-suc zero-le
@@ -65,3 +65,29 @@ xor-swap a b c d =
 
 pub xor8 : (a b : ℕ) → a < 256 → b < 256 → bitXor a b < 256
 xor8 = xor-lt 8
+
+-- ---- a mask
+
+mask-bits : (x y m : ℕ) → x < 2 → y < 2 → m < 2 → bitAnd (bitXor x y) m ≡ bitXor (bitAnd x m) (bitAnd y m)
+mask-bits zero y m hx hy hm = refl
+mask-bits (suc zero) zero zero hx hy hm = refl
+mask-bits (suc zero) zero (suc zero) hx hy hm = refl
+mask-bits (suc zero) (suc zero) zero hx hy hm = refl
+mask-bits (suc zero) (suc zero) (suc zero) hx hy hm = refl
+mask-bits (suc zero) zero (suc (suc m)) hx hy hm = absurd (omega arith)
+mask-bits (suc zero) (suc zero) (suc (suc m)) hx hy hm = absurd (omega arith)
+mask-bits (suc zero) (suc (suc y)) m hx hy hm = absurd (omega arith)
+mask-bits (suc (suc x)) y m hx hy hm = absurd (omega arith)
+
+pub mask-xor : (a b m : ℕ) → bitAnd (bitXor a b) m ≡ bitXor (bitAnd a m) (bitAnd b m)
+mask-xor a =
+    bin-ind (λ (n : ℕ). (b m : ℕ) → bitAnd (bitXor n b) m ≡ bitXor (bitAnd n m) (bitAnd b m)) (λ b m. refl)
+    (λ n ih b m.
+    sym (div-add-mod' (bitAnd (bitXor n b) m) 2)
+    ∙ ap₂ (λ (x y : ℕ). x * 2 + y)
+    (and-shr (bitXor n b) m 1 ∙ ap (λ (x : ℕ). bitAnd x (m / 2)) (xor-half n b) ∙ ih (b / 2) (m / 2)
+    ∙ sym (xor-half (bitAnd n m) (bitAnd b m) ∙ ap₂ bitXor (and-shr n m 1) (and-shr b m 1)))
+    (and-mod (bitXor n b) m 1 ∙ ap (λ (x : ℕ). bitAnd x (m % 2)) (xor-mod n b 1)
+    ∙ mask-bits (n % 2) (b % 2) (m % 2) (mod-lt n two-pos) (mod-lt b two-pos) (mod-lt m two-pos)
+    ∙ sym (xor-mod (bitAnd n m) (bitAnd b m) 1 ∙ ap₂ bitXor (and-mod n m 1) (and-mod b m 1)))
+    ∙ div-add-mod' (bitXor (bitAnd n m) (bitAnd b m)) 2) a
