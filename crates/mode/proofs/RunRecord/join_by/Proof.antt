@@ -16,10 +16,10 @@ add-t8 c = search needs
 
 returns : tie.Need-returns
 returns c =
-    let s = c .before .before .before in
+    let s = c .before .before .before .before .before .before in
     let a = s .args in
-    let m = c .before .before .multiply in
-    let x = c .before .xor in
+    let m = c .before .before .before .before .multiply in
+    let x = c .before .before .xor in
     joined-by (a .self) (a .right) (a .power) (m .result) (x .result) (proper-by (x .result) (search needs) (search needs)) (s .pre) (m .ensures) (x .ensures)
 
 pub join-by-spec : {M : Type 1} → statement M
