@@ -93,8 +93,8 @@ module _ (f g : List ℕ → List ℕ) (start text : List ℕ) (n : ℕ) where
       }
 
   module _ (i : ℕ) (mask p : List ℕ) (now : Chained f g start text n i mask p) where
-    -- a turn of the loop, where b is the block that it reads
-    module _ (l : i < n) (b x t mask′ p′ : List ℕ) (eb : b ≡ take 16 (drop (i * 16) text)) (ex : x ≡ xorBytes b mask) (et : t ≡ f x)
+    -- a turn of the loop, where x is the block that it reads, masked
+    module _ (l : i < n) (x t mask′ p′ : List ℕ) (ex : x ≡ xorBytes (take 16 (drop (i * 16) text)) mask) (et : t ≡ f x)
         (ep : p′ ≡ xorBytes (timesX p) t) (er : mask′ ≡ timesX mask) where
       left : record {
         output = xorBytes (g t) mask ++ walk f g (firstBlocks (n - (i + 1)) (drop ((i + 1) * 16) text)) mask′ p′ .output;
@@ -105,7 +105,7 @@ module _ (f g : List ℕ → List ℕ) (start text : List ℕ) (n : ℕ) where
       left =
           let e : (i + 1) * 16 ≡ i * 16 + 16 = omega arith in
           one-step f g (n - (i + 1)) (n - i) (drop ((i + 1) * 16) text) (drop (i * 16) text) t mask p mask′ p′ (omega arith)
-          (ap (λ (k : ℕ). drop k text) e ∙ sym (drop-drop 16 (i * 16) text)) (et ∙ ap f (ex ∙ ap (λ (z : List ℕ). xorBytes z mask) eb)) er ep
+          (ap (λ (k : ℕ). drop k text) e ∙ sym (drop-drop 16 (i * 16) text)) (et ∙ ap f ex) er ep
 
       pub chain-turn : Chained f g start text n (i + 1) mask′ p′
       chain-turn =
@@ -142,15 +142,18 @@ module _ (f g : List ℕ → List ℕ) (start old : List ℕ) (n : ℕ) where
       }
 
   module _ (fits : n * 16 ≤ length old) (i : ℕ) (new mask p : List ℕ) (now : Written f g start old n i new mask p) where
-    pub turn : (b x t u y new′ p′ mask′ : List ℕ) → i < n → length y ≡ 16
-        → b ≡ take 16 (drop (i * 16) new) → x ≡ xorBytes b mask → t ≡ f x → u ≡ g t → y ≡ xorBytes u mask
-        → new′ ≡ take (i * 16) new ++ y ++ drop (i * 16 + 16) new → p′ ≡ xorBytes (timesX p) t → mask′ ≡ timesX mask
+    pub turn : (x t u new′ p′ mask′ : List ℕ) → i < n → length (xorBytes u mask) ≡ 16
+        → x ≡ xorBytes (take 16 (drop (i * 16) new)) mask → t ≡ f x → u ≡ g t
+        → new′ ≡ take (i * 16) new ++ xorBytes u mask ++ drop (i * 16 + 16) new → p′ ≡ xorBytes (timesX p) t → mask′ ≡ timesX mask
         → Written f g start old n (i + 1) new′ mask′ p′
-    turn b x t u y new′ p′ mask′ l ly eb ex et eu ey en ep er =
-        record { chain = chain-turn f g start old n i mask p (now .chain) l b x t mask′ p′ eb′ ex et ep er; long = long′; rest = rest′; output = output′ }
+    turn x t u new′ p′ mask′ l ly ex et eu en ep er =
+        record { chain = chain-turn f g start old n i mask p (now .chain) l x t mask′ p′ ex′ et ep er; long = long′; rest = rest′; output = output′ }
       where
-        eb′ : b ≡ take 16 (drop (i * 16) old)
-        eb′ = eb ∙ ap (take 16) (now .rest)
+        y : List ℕ
+        y = xorBytes u mask
+
+        ex′ : x ≡ xorBytes (take 16 (drop (i * 16) old)) mask
+        ex′ = ex ∙ ap (λ (z : List ℕ). xorBytes (take 16 z) mask) (now .rest)
 
         next : (i + 1) * 16 ≡ i * 16 + 16
         next = omega arith
@@ -174,14 +177,14 @@ module _ (f g : List ℕ → List ℕ) (start old : List ℕ) (n : ℕ) where
         out′ : take ((i + 1) * 16) new′ ≡ take (i * 16) new ++ xorBytes (g t) mask
         out′ =
             ap (take ((i + 1) * 16)) en ∙ take-at (take (i * 16) new ++ y) (drop (i * 16 + 16) new) ((i + 1) * 16) front′
-            ∙ ap (λ (z : List ℕ). take (i * 16) new ++ z) (ey ∙ ap (λ (z : List ℕ). xorBytes z mask) eu)
+            ∙ ap (λ (z : List ℕ). take (i * 16) new ++ xorBytes z mask) eu
 
         output′ : take ((i + 1) * 16) new′ ++ walk f g (firstBlocks (n - (i + 1)) (drop ((i + 1) * 16) old)) mask′ p′ .output
             ≡ walk f g (firstBlocks n old) start zeroBlock .output
         output′ =
             ap (λ (z : List ℕ). z ++ walk f g (firstBlocks (n - (i + 1)) (drop ((i + 1) * 16) old)) mask′ p′ .output) out′
             ∙ append-assoc (take (i * 16) new) (xorBytes (g t) mask) (walk f g (firstBlocks (n - (i + 1)) (drop ((i + 1) * 16) old)) mask′ p′ .output)
-            ∙ ap (λ (q : Pass). take (i * 16) new ++ q .output) (left f g start old n i mask p (now .chain) l b x t mask′ p′ eb′ ex et ep er)
+            ∙ ap (λ (q : Pass). take (i * 16) new ++ q .output) (left f g start old n i mask p (now .chain) l x t mask′ p′ ex′ et ep er)
             ∙ now .output
 
     pub ends : n ≤ i → Ran (walk f g (firstBlocks n old) start zeroBlock) n old new mask p

@@ -18,7 +18,7 @@ jump-towards-requires : tie.Need-jump-towards-requires
 jump-towards-requires c κs = search needs
 
 returns : tie.Need-returns
-returns c = 
+returns c =
     let s = c .before .before in
     let d = s .args .distance in
     c .jump-towards .ensures

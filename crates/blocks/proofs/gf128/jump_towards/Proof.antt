@@ -21,7 +21,7 @@ multiply-requires : tie.Need-multiply-requires
 multiply-requires c κs = search needs
 
 returns-2 : tie.Need-returns-2
-returns-2 c = 
+returns-2 c =
     let a = c .before .before .before .args in
     c .multiply .ensures ∙ ap (λ (p : List ℕ). product p (bytesOf (a .b))) (c .before .power .ensures)
     ∙ product-power (signed (a .back) (a .n)) (bytesOf (a .b)) (block-bytesOf (a .b))

@@ -12,7 +12,7 @@ take-word-requires : tie.Need-take-word-requires
 take-word-requires c κs = search needs
 
 returns : tie.Need-returns
-returns c = 
+returns c =
     let a = c .before .before .args in
     product-words (a .a) (a .b) (c .before .times-word .result) (c .take-word .result) (proper-by (a .a) (search needs) (search needs))
     (c .before .times-word .ensures) (c .take-word .ensures)

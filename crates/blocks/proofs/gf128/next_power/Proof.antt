@@ -12,7 +12,7 @@ square-requires : tie.Need-square-requires
 square-requires c κs = search needs
 
 returns : tie.Need-returns
-returns c = 
+returns c =
     let a = c .before .before .args in
     let q = bytesOf (a .q) in
     c .before .square .ensures ∙ sym (no-step (a .back) (a .bit) (product q q) (c .if1 .taken))
@@ -24,7 +24,7 @@ times-x-requires : tie.Need-times-x-requires
 times-x-requires c κs = search needs
 
 returns-2 : tie.Need-returns-2
-returns-2 c = 
+returns-2 c =
     let s = c .before .before .before in
     let a = s .before .args in
     let q = bytesOf (a .q) in
@@ -32,7 +32,7 @@ returns-2 c =
     c .over-x .ensures ∙ ap overX (s .square .ensures) ∙ sym (step-back (a .back) (a .bit) (product q q) (c .before .if2 .taken) k)
 
 returns-3 : tie.Need-returns-3
-returns-3 c = 
+returns-3 c =
     let s = c .before .before .before in
     let a = s .before .args in
     let q = bytesOf (a .q) in

@@ -27,7 +27,7 @@ shr-take-power : tie.Need-shr-take-power Inv-loop μ-loop
 shr-take-power c = omega arith
 
 take-power-requires : tie.Need-take-power-requires Inv-loop μ-loop
-take-power-requires c κs = 
+take-power-requires c κs =
     let l = c .before .loop in
     let h : 0 < l .left = omega arith in
     l .inv .1 ∙ ap (λ (k : ℕ). powerOf (signed (c .before .before .args .back) k)) (sym (one-bit-less (c .before .before .args .n) (l .left) h))
@@ -39,7 +39,7 @@ loop-again : tie.Need-loop-again Inv-loop μ-loop
 loop-again c = (omega arith, c .take-power .ensures)
 
 returns : tie.Need-returns Inv-loop μ-loop
-returns c = 
+returns c =
     let l = c .before .loop in
     let n = c .before .before .args .n in
     let back = c .before .before .args .back in

@@ -28,7 +28,7 @@ xor-requires : tie.Need-xor-requires
 xor-requires c κs = search needs
 
 returns : tie.Need-returns
-returns c = 
+returns c =
     let w = c .before .before .before .before .before .before .before .before .before .before .before .args .b in
     let h : Words = record { high = c .before .before .before .before .before .before .before .before .before .spread .result; low = c .before .before .before .before .before .before .before .spread2 .result } in
     let l : Words = record { high = c .before .before .before .before .before .spread3 .result; low = c .before .before .before .spread4 .result } in

@@ -15,7 +15,7 @@ mul-t7 : tie.Need-mul-t7
 mul-t7 c = let a = c .before .before .before .before .args in bit-fits (a .bit) (a .b .low) (search needs) (search needs)
 
 returns : tie.Need-returns
-returns c = 
+returns c =
     let s = c .before .before .before .before in
     let a = s .before .args in
     let t = s .times-x .result in

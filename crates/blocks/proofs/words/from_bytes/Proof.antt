@@ -60,7 +60,7 @@ word-requires-2 : tie.Need-word-requires-2
 word-requires-2 c κs = search needs
 
 returns : tie.Need-returns
-returns c = 
+returns c =
     let b = c .before .before .args .t1 in
     words-by b (c .before .word .result) (c .word2 .result) (block-by b (search needs) (λ i. search needs)) (c .before .word .ensures) (c .word2 .ensures)
 

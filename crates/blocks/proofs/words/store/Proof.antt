@@ -17,7 +17,7 @@ same-length : tie.Need-same-length
 same-length c = search needs
 
 returns : tie.Need-returns
-returns c = 
+returns c =
     let s = c .before .before .before .before .before .before in
     c .before .before .store .ensures
     ∙ ap (λ (x : List ℕ). take (s .args .at) (s .args .d .now) ++ x ++ drop (s .args .at + 16) (s .args .d .now)) (c .before .before .before .before .to-bytes .ensures)

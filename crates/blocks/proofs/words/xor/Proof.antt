@@ -5,7 +5,7 @@ use Rattle.blocks.proofs.words.xor.Statement.{statement}
 use Rattle.blocks.proofs.words.xor.Tie as tie
 
 returns : tie.Need-returns
-returns c = 
+returns c =
     let a = c .before .before .before .before .args in
     xor-words (a .a) (a .b) (proper-by (a .a) (search needs) (search needs)) (proper-by (a .b) (search needs) (search needs))
 

@@ -35,19 +35,27 @@ xor-requires-2 c κs = search needs
 equal-requires : tie.Need-equal-requires
 equal-requires c κs = search needs
 
+from-bytes-requires : tie.Need-from-bytes-requires
+from-bytes-requires c κs = search needs
+
 returns : tie.Need-returns
 returns c =
-    let s = c .before in
+    let s = c .before .before in
     let a = s .before .before .before .before .before .args in
-    chosen true (a .keys .now) (a .iv) _ _ _ _ (s .before .before .before .before .key-of .ensures) (s .before .before .before .xor .ensures) (s .before .before .encrypt .ensures) (s .before .xor2 .ensures)
-    (sym (s .equal .ensures) ∙ c .if1 .taken)
+    c .from-bytes .ensures
+    ∙ chosen true (a .keys .now) (a .iv) _ _ _ _ (s .before .before .before .before .key-of .ensures) (s .before .before .before .xor .ensures) (s .before .before .encrypt .ensures) (s .before .xor2 .ensures)
+    (sym (s .equal .ensures) ∙ c .before .if1 .taken)
+
+from-bytes-requires-2 : tie.Need-from-bytes-requires-2
+from-bytes-requires-2 c κs = search needs
 
 returns-2 : tie.Need-returns-2
 returns-2 c =
-    let s = c .before in
+    let s = c .before .before in
     let a = s .before .before .before .before .before .args in
-    chosen false (a .keys .now) (a .iv) _ _ _ _ (s .before .before .before .before .key-of .ensures) (s .before .before .before .xor .ensures) (s .before .before .encrypt .ensures) (s .before .xor2 .ensures)
-    (sym (s .equal .ensures) ∙ c .if1 .left)
+    c .from-bytes2 .ensures
+    ∙ chosen false (a .keys .now) (a .iv) _ _ _ _ (s .before .before .before .before .key-of .ensures) (s .before .before .before .xor .ensures) (s .before .before .encrypt .ensures) (s .before .xor2 .ensures)
+    (sym (s .equal .ensures) ∙ c .before .if1 .left)
 
 pub start-mask-spec : {M : Type 1} → statement M
 start-mask-spec =
@@ -58,5 +66,7 @@ start-mask-spec =
     encrypt-requires
     xor-requires-2
     equal-requires
+    from-bytes-requires
     returns
+    from-bytes-requires-2
     returns-2)

@@ -5,7 +5,11 @@ use Prim.Native.Nat.{_≤_, _-_, _*_, _/_}
 use native.Mathlib.Omega.{arith}
 use lib.ListN.{length}
 use Rattle.blocks.specs.Bytes.{firstBlocks}
+use Rattle.blocks.specs.Gf128.{lowBytes}
+use Rattle.blocks.specs.Words.{bytesOf}
+use Rattle.blocks.proofs.Bridge.{block-bytesOf}
 use Rattle.fips197.specs.Aes128.{firstHalf, secondHalf}
+use Rattle.mode.proofs.Laws.{xor-long}
 use Rattle.runs.specs.Run.{keyOf, Expanded}
 use Rattle.runs.proofs.Walk.{Written, begins, turn, ends, ran-sealing}
 use Rattle.runs.proofs.Halves.{first-is, second-is}
@@ -13,7 +17,7 @@ use Rattle.runs.proofs.run.seal_blocks.Statement.{statement}
 use Rattle.runs.proofs.run.seal_blocks.Tie as tie
 
 abbrev Inv-loop : tie.InvT-loop
-Inv-loop keys sbox text₀ n m₀ p₀ i₀ text m p i = Written (firstHalf (keyOf keys)) (secondHalf (keyOf keys)) m₀ text₀ n i text m p
+Inv-loop keys sbox text₀ n m₀ p₀ i₀ text m p i = Written (firstHalf (keyOf keys)) (secondHalf (keyOf keys)) (bytesOf m₀) text₀ n i text (bytesOf m) (bytesOf p)
 
 abbrev μ-loop : tie.MeasureT-loop
 μ-loop keys sbox text₀ n m₀ p₀ i₀ text m p i = n - i
@@ -21,20 +25,18 @@ abbrev μ-loop : tie.MeasureT-loop
 fits : (c : tie.Start Inv-loop μ-loop) → length (c .args .text .now) / 16 * 16 ≤ length (c .args .text .now)
 fits c = omega arith
 
-long-y : (c : tie.After-xor2 Inv-loop μ-loop) → length (c .xor2 .result) ≡ 16
-long-y c = search needs
+long-u : (c : tie.After-second-half Inv-loop μ-loop) → length (c .second-half .result) ≡ 16
+long-u c = search needs
 
 loop-holds : tie.Need-loop-holds Inv-loop μ-loop
+unfolding bytesOf lowBytes
 loop-holds c = begins _ _ _ _ _
 
 mul-at : tie.Need-mul-at Inv-loop μ-loop
 mul-at c = search needs
 
-load-requires : tie.Need-load-requires Inv-loop μ-loop
-load-requires c κs = search needs
-
-xor-requires : tie.Need-xor-requires Inv-loop μ-loop
-xor-requires c κs = search needs
+load-masked-requires : tie.Need-load-masked-requires Inv-loop μ-loop
+load-masked-requires c κs = search needs
 
 first-half-requires : tie.Need-first-half-requires Inv-loop μ-loop
 first-half-requires c κs = search needs
@@ -42,11 +44,8 @@ first-half-requires c κs = search needs
 second-half-requires : tie.Need-second-half-requires Inv-loop μ-loop
 second-half-requires c κs = search needs
 
-xor-requires-2 : tie.Need-xor-requires-2 Inv-loop μ-loop
-xor-requires-2 c κs = search needs
-
-store-requires : tie.Need-store-requires Inv-loop μ-loop
-store-requires c κs = search needs
+store-masked-requires : tie.Need-store-masked-requires Inv-loop μ-loop
+store-masked-requires c κs = search needs
 
 take-up-requires : tie.Need-take-up-requires Inv-loop μ-loop
 take-up-requires c κs = search needs
@@ -62,14 +61,16 @@ loop-less c = search needs
 
 loop-again : tie.Need-loop-again Inv-loop μ-loop
 loop-again c =
-    let l = c .before .before .before .before .before .before .before .before .before .before .before .before .before in
+    let l = c .before .before .before .before .before .before .before .before .before .before .before in
     let a = l .before .before .args in
     let keys = a .keys .now in
     let e : Expanded keys = search needs in
-    turn (firstHalf (keyOf keys)) (secondHalf (keyOf keys)) (a .mask) (a .text .now) (length (a .text .now) / 16) (fits (l .before .before)) (l .loop .i) (l .loop .text) (l .loop .m) (l .loop .p) (l .loop .inv)
-    _ _ _ _ _ _ _ _ (c .before .before .before .before .before .before .before .before .before .before .before .before .loop-test .taken) (long-y (c .before .before .before .before .before .before))
-    (c .before .before .before .before .before .before .before .before .before .before .load .ensures) (c .before .before .before .before .before .before .before .before .before .xor .ensures) (c .before .before .before .before .before .before .before .before .first-half .ensures ∙ first-is keys e (c .before .before .before .before .before .before .before .before .before .xor .result))
-    (c .before .before .before .before .before .before .before .second-half .ensures ∙ second-is keys e (c .before .before .before .before .before .before .before .before .first-half .result)) (c .before .before .before .before .before .before .xor2 .ensures) (c .before .before .before .before .store .ensures) (c .before .take-up .ensures) (c .times-x .ensures)
+    let m = bytesOf (l .loop .m) in
+    let u = c .before .before .before .before .before .before .second-half .result in
+    turn (firstHalf (keyOf keys)) (secondHalf (keyOf keys)) (bytesOf (a .mask)) (a .text .now) (length (a .text .now) / 16) (fits (l .before .before)) (l .loop .i) (l .loop .text) m (bytesOf (l .loop .p)) (l .loop .inv)
+    _ _ _ _ _ _ (c .before .before .before .before .before .before .before .before .before .before .loop-test .taken) (xor-long u m (long-u (c .before .before .before .before .before .before)) (block-bytesOf (l .loop .m) .long))
+    (c .before .before .before .before .before .before .before .before .load-masked .ensures) (c .before .before .before .before .before .before .before .first-half .ensures ∙ first-is keys e (c .before .before .before .before .before .before .before .before .load-masked .result)) (c .before .before .before .before .before .before .second-half .ensures ∙ second-is keys e (c .before .before .before .before .before .before .before .first-half .result))
+    (c .before .before .before .before .store-masked .ensures) (c .before .take-up .ensures) (c .times-x .ensures)
 
 same-length : tie.Need-same-length Inv-loop μ-loop
 same-length c = search needs
@@ -79,8 +80,8 @@ returns c =
     let l = c .before in
     let a = l .before .before .args in
     let keys = a .keys .now in
-    ran-sealing (keyOf keys) (a .mask) (firstBlocks (length (a .text .now) / 16) (a .text .now))
-    (ends (firstHalf (keyOf keys)) (secondHalf (keyOf keys)) (a .mask) (a .text .now) (length (a .text .now) / 16) (fits (l .before .before)) (l .loop .i) (l .loop .text) (l .loop .m) (l .loop .p) (l .loop .inv) (c .loop-test .left))
+    ran-sealing (keyOf keys) (bytesOf (a .mask)) (firstBlocks (length (a .text .now) / 16) (a .text .now))
+    (ends (firstHalf (keyOf keys)) (secondHalf (keyOf keys)) (bytesOf (a .mask)) (a .text .now) (length (a .text .now) / 16) (fits (l .before .before)) (l .loop .i) (l .loop .text) (bytesOf (l .loop .m)) (bytesOf (l .loop .p)) (l .loop .inv) (c .loop-test .left))
 
 pub seal-blocks-spec : {M : Type 1} → statement M
 seal-blocks-spec =
@@ -90,12 +91,10 @@ seal-blocks-spec =
     μ-loop
     loop-holds
     mul-at
-    load-requires
-    xor-requires
+    load-masked-requires
     first-half-requires
     second-half-requires
-    xor-requires-2
-    store-requires
+    store-masked-requires
     take-up-requires
     times-x-requires
     add-i
