@@ -7,7 +7,7 @@ use Prim.Native.Nat.{ℕ}
 use lib.Dec.{T, eqb, ltb}
 use borrow.Author.Tests.{eqb-true}
 use Rattle.blocks.specs.Bytes.{zeros}
-use Rattle.mode.specs.Mode.{plaintext}
+use Rattle.mode.specs.Mode.{plaintext, inWords}
 use Rattle.mode.specs.declared.RunRecord.{RunRecord}
 use Rattle.mode.specs.declared.RecordAnswer.{RecordAnswer}
 use Rattle.mode.specs.declared.TagAnswer.{TagAnswer}
@@ -112,7 +112,7 @@ run-promised key iv first last bytes size room =
     blocks = blocksOfRun kind bytes
 
     d : Answer RunRecord
-    d = decide (sealRunRows aes key iv first kind bytes size) (runRecord aes plaintext key iv first blocks)
+    d = decide (sealRunRows aes key iv first kind bytes size) (runRecord inWords aes plaintext key iv first blocks)
 
     text : List ℕ
     text = (passFrom aes plaintext key iv first blocks) .output
@@ -148,12 +148,12 @@ promises =
       of-seal-run = run-promised;
       of-check-run = λ key iv first bytes room. lent-promised _ _ 24 _ room (by-rows _ (checkRunRows aes key iv first bytes) _ tt) tt tt;
       of-join =
-          λ l r room. lent-promised _ _ 24 _ room (by-cases _ refusalOf (notRecord l || notRecord r) _ _ (tested _ 24 tt) (by-rows _ (joinTwoRows (decoded l) (decoded r)) _ tt)) tt tt;
+          λ l r room. lent-promised _ _ 24 _ room (by-cases _ refusalOf (notRecord l || notRecord r) _ _ (tested _ 24 tt) (by-rows _ (joinTwoRows inWords (decoded l) (decoded r)) _ tt)) tt tt;
       of-join-list =
-          λ b room. lent-promised _ _ 24 _ room (by-cases _ refusalOf (notRecords b) _ _ (tested _ 24 tt) (by-rows _ (joinListRows (recordsOf b)) _ tt)) tt tt;
+          λ b room. lent-promised _ _ 24 _ room (by-cases _ refusalOf (notRecords b) _ _ (tested _ 24 tt) (by-rows _ (joinListRows inWords (recordsOf b)) _ tt)) tt tt;
       of-close =
-          λ key iv r room. lent-promised _ _ 16 _ room (by-cases _ refusalOfTag (notRecord r) _ _ (tested _ 24 tt) (by-rows _ (closeRows aes key iv (decoded r)) _ tt)) tt tt;
+          λ key iv r room. lent-promised _ _ 16 _ room (by-cases _ refusalOfTag (notRecord r) _ _ (tested _ 24 tt) (by-rows _ (closeRows inWords aes key iv (decoded r)) _ tt)) tt tt;
       of-test =
-          λ key iv r tag. by-cases _ (λ (n : ℕ). n) (notRecord r) _ _ (tested _ 24 tt) (by-rows _ (testRows aes key iv (decoded r) tag) _ tt);
+          λ key iv r tag. by-cases _ (λ (n : ℕ). n) (notRecord r) _ _ (tested _ 24 tt) (by-rows _ (testRows inWords aes key iv (decoded r) tag) _ tt);
       of-jump = λ mask distance room. promised _ _ _ room (by-rows _ (jumpRows mask distance room) _ tt);
     }

@@ -9,7 +9,7 @@ use Rattle.blocks.specs.Bytes.{zeros}
 use Rattle.mode.specs.declared.RunAnswer.{RunAnswer}
 use Rattle.mode.specs.declared.RecordAnswer.{RecordAnswer}
 use Rattle.mode.specs.declared.TagAnswer.{TagAnswer}
-use Rattle.mode.specs.Mode.{zeroBlock}
+use Rattle.mode.specs.Mode.{zeroBlock, inWords}
 use Rattle.mode.specs.Aes.{aes}
 use Rattle.mode.specs.Table.{decide, tooShort}
 use Rattle.mode.specs.Calls.{Outcome, outcomeBy, sealRun, checkRun, joinTwo, joinList, close, test, number, runAnswerOf, recordAnswerOf, refusedRecord, tagAnswerOf}
@@ -54,19 +54,19 @@ notRecords b = not (eqb (length b % 24) 0)
 
 -- JOIN
 unfoldable pub joinBytes : List ℕ → List ℕ → RecordAnswer
-joinBytes l r = cond (notRecord l || notRecord r) (refusedRecord 24) (recordAnswerOf (joinTwo (decoded l) (decoded r)))
+joinBytes l r = cond (notRecord l || notRecord r) (refusedRecord 24) (recordAnswerOf (joinTwo inWords (decoded l) (decoded r)))
 
 -- JOIN A LIST
 unfoldable pub joinListBytes : List ℕ → RecordAnswer
-joinListBytes b = cond (notRecords b) (refusedRecord 24) (recordAnswerOf (joinList (recordsOf b)))
+joinListBytes b = cond (notRecords b) (refusedRecord 24) (recordAnswerOf (joinList inWords (recordsOf b)))
 
 -- CLOSE
 unfoldable pub closeBytes : List ℕ → List ℕ → List ℕ → TagAnswer
-closeBytes key iv r = cond (notRecord r) (record { refusal = 24; tag = zeroBlock }) (tagAnswerOf (close aes key iv (decoded r)))
+closeBytes key iv r = cond (notRecord r) (record { refusal = 24; tag = zeroBlock }) (tagAnswerOf (close inWords aes key iv (decoded r)))
 
 -- TEST
 unfoldable pub testBytes : List ℕ → List ℕ → List ℕ → List ℕ → ℕ
-testBytes key iv r tag = cond (notRecord r) 24 (number (test aes key iv (decoded r) tag))
+testBytes key iv r tag = cond (notRecord r) 24 (number (test inWords aes key iv (decoded r) tag))
 
 -- ---- SEAL A RUN
 
@@ -92,7 +92,7 @@ pub record ReportedRun (o : RunOutcome) (n reported : ℕ) (out run : List ℕ) 
 -- room for the record, the ciphertext is not kept.
 unfoldable pub sealRunBytes : List ℕ → List ℕ → ℕ → ℕ → List ℕ → ℕ → ℕ → RunOutcome
 sealRunBytes key iv first last bytes size room =
-    let o = sealRun aes key iv first (kindOf (not (eqb last 0))) bytes size in
+    let o = sealRun inWords aes key iv first (kindOf (not (eqb last 0))) bytes size in
     let r = lentRecord (recordPart (runAnswerOf o)) room in
     record {
       refusal = number (r .answer);
@@ -104,4 +104,4 @@ sealRunBytes key iv first last bytes size room =
 -- ---- CHECK A RUN
 
 abbrev pub checkRunBytes : List ℕ → List ℕ → ℕ → List ℕ → RecordAnswer
-checkRunBytes key iv first bytes = recordAnswerOf (checkRun aes key iv first bytes)
+checkRunBytes key iv first bytes = recordAnswerOf (checkRun inWords aes key iv first bytes)

@@ -9,7 +9,7 @@ use lib.Dec.{eqb}
 use Rattle.blocks.specs.Bytes.{zeros}
 use Rattle.fips197.specs.KeyExpansion.{keyExpansion}
 use Rattle.mode.specs.declared.RunRecord.{RunRecord}
-use Rattle.mode.specs.Mode.{Pass, ciphertext, blocksOf, startMask, unbrokenTag, ivPart, cipherPart}
+use Rattle.mode.specs.Mode.{Pass, ciphertext, blocksOf, startMask, unbrokenTag, ivPart, cipherPart, inWords}
 use Rattle.mode.specs.Aes.{aes}
 use Rattle.mode.specs.Table.{decide, not16, notSealed, beyond, notWhole, zeroMask, tooShort}
 use Rattle.mode.specs.declared.Written.{Written}
@@ -29,7 +29,7 @@ pub record TextSealed (p : Pass) (left : ℕ) (new mask preauthenticator : List 
 
 -- the rows that go by the record that is closed, and by the mask that closes it
 abbrev pub recordRows : List ℕ → List ℕ → RunRecord → List (ℕ × Bool)
-recordRows key iv r = (4, beyond (r .first) (r .count)) ∷ (9, notWhole r) ∷ (10, zeroMask aes key iv) ∷ []
+recordRows key iv r = (4, beyond (r .first) (r .count)) ∷ (9, notWhole inWords r) ∷ (10, zeroMask aes key iv) ∷ []
 
 -- the rows of a test that stand before 6
 abbrev pub testFirstRows : List ℕ → List ℕ → RunRecord → List ℕ → List (ℕ × Bool)
@@ -59,7 +59,7 @@ abbrev pub runGiven : ℕ → RunRecord → RunAnswer
 runGiven n r = record { refusal = 0; length = n; run = r }
 
 abbrev pub refusedRun : ℕ → RunAnswer
-refusedRun n = record { refusal = n; length = 0; run = blank }
+refusedRun n = record { refusal = n; length = 0; run = blank inWords }
 
 -- what a call that writes answers, with nothing refused
 abbrev pub writtenGiven : ℕ → Written

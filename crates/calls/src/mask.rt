@@ -36,9 +36,9 @@ pub fn jump(mask: &[u8], distance: i32, out: &mut [u8]) -> Written
     if refusal != 0 {
         return Written { refusal, length: 0 };
     }
-    let m = blocks::block::load(mask, 0);
+    let m = blocks::words::load(mask, 0);
     let jumped = blocks::gf128::jump_by(m, distance);
-    blocks::block::store(out, 0, jumped);
+    blocks::words::store(out, 0, jumped);
     Written {
         refusal: 0,
         length: 16,

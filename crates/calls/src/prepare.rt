@@ -1,20 +1,22 @@
 // What every call under a key and an IV begins with.
+use blocks::words::Words;
 ghost use mathlib.Core.Path.{_≡_};
 ghost use lib.ListN.{length};
+ghost use Rattle.blocks.specs.Words.{bytesOf};
 ghost use Rattle.mode.specs.Aes.{aes};
 ghost use Rattle.mode.specs.Table.{zeroMask};
 ghost use Rattle.calls.specs.Work.{Prepares};
 
 pub struct Prepared {
     pub keys: [u8; 176],
-    pub start: [u8; 16],
+    pub start: Words,
 }
 
 // The key schedule, and the start mask.
 pub fn prepare(key: &[u8], iv: &[u8]) -> Prepared
     requires { ⌜ length (now key) ≡ 16 ⌝ }
     requires { ⌜ length (now iv) ≡ 16 ⌝ }
-    ensures { λ p. ⌜ Prepares (now (key .entry)) (now (iv .entry)) (p .keys) (p .start) ⌝ }
+    ensures { λ p. ⌜ Prepares (now (key .entry)) (now (iv .entry)) (p .keys) (bytesOf (p .start)) ⌝ }
 {
     let sbox = &aes::sbox::SBOX;
     let k = blocks::block::load(key, 0);
@@ -36,6 +38,6 @@ pub fn zero_mask(key: &[u8], iv: &[u8]) -> bool
         return false;
     }
     let p = prepare(key, iv);
-    let start = p.start;
+    let start = blocks::words::to_bytes(p.start);
     blocks::block::equal(start, [0u8; 16])
 }

@@ -3,6 +3,7 @@ use mode::RunRecord;
 use mode::TagAnswer;
 ghost use mathlib.Core.Path.{_≡_};
 ghost use lib.ListN.{length};
+ghost use Rattle.mode.specs.Mode.{inWords};
 ghost use Rattle.mode.specs.Aes.{aes};
 ghost use Rattle.mode.specs.Table.{firstRow};
 ghost use Rattle.mode.specs.Calls.{closeRows, closingTag, close as closeOf, test as testOf, tagAnswerOf, number};
@@ -31,7 +32,7 @@ fn record_refusal(key: &[u8], iv: &[u8], run: RunRecord) -> u8
 
 // The first row of the table that holds, or 0.
 fn close_refusal(key: &[u8], iv: &[u8], run: RunRecord) -> u8
-    ensures { λ n. ⌜ n ≡ firstRow (closeRows aes (now (key .entry)) (now (iv .entry)) run) ⌝ }
+    ensures { λ n. ⌜ n ≡ firstRow (closeRows inWords aes (now (key .entry)) (now (iv .entry)) run) ⌝ }
 {
     if key.len() != 16 {
         return 1;
@@ -62,7 +63,7 @@ fn test_refusal(key: &[u8], iv: &[u8], run: RunRecord, tag: &[u8]) -> u8
 fn closing_tag(key: &[u8], iv: &[u8], run: RunRecord) -> [u8; 16]
     requires { ⌜ length (now key) ≡ 16 ⌝ }
     requires { ⌜ length (now iv) ≡ 16 ⌝ }
-    ensures { λ t. ⌜ t ≡ closingTag aes (now (key .entry)) (now (iv .entry)) run ⌝ }
+    ensures { λ t. ⌜ t ≡ closingTag inWords aes (now (key .entry)) (now (iv .entry)) run ⌝ }
 {
     let sbox = &aes::sbox::SBOX;
     let p = crate::prepare::prepare(key, iv);
@@ -75,7 +76,7 @@ fn closing_tag(key: &[u8], iv: &[u8], run: RunRecord) -> [u8; 16]
 
 // CLOSE a record into its tag.
 pub fn close(key: &[u8], iv: &[u8], run: RunRecord) -> TagAnswer
-    ensures { λ a. ⌜ a ≡ tagAnswerOf (closeOf aes (now (key .entry)) (now (iv .entry)) run) ⌝ }
+    ensures { λ a. ⌜ a ≡ tagAnswerOf (closeOf inWords aes (now (key .entry)) (now (iv .entry)) run) ⌝ }
 {
     let refusal = close_refusal(key, iv, run);
     if refusal != 0 {
@@ -90,7 +91,7 @@ pub fn close(key: &[u8], iv: &[u8], run: RunRecord) -> TagAnswer
 
 // TEST a tag against a record: 0 where closing gives that tag, or the number of the refusal.
 pub fn test(key: &[u8], iv: &[u8], run: RunRecord, tag: &[u8]) -> u8
-    ensures { λ n. ⌜ n ≡ number (testOf aes (now (key .entry)) (now (iv .entry)) run (now (tag .entry))) ⌝ }
+    ensures { λ n. ⌜ n ≡ number (testOf inWords aes (now (key .entry)) (now (iv .entry)) run (now (tag .entry))) ⌝ }
 {
     let refusal = test_refusal(key, iv, run, tag);
     if refusal != 0 {

@@ -1,4 +1,5 @@
 // Seal a run, check a run.
+use blocks::words::Words;
 use mode::RecordAnswer;
 use mode::RunAnswer;
 use mode::RunRecord;
@@ -7,7 +8,7 @@ ghost use mathlib.Core.List.{_++_};
 ghost use Prim.Native.Nat.{_+_, _-_, _%_, _/_, _≤_};
 ghost use lib.ListN.{length};
 ghost use Rattle.blocks.specs.Bytes.{zeros};
-ghost use Rattle.mode.specs.Mode.{plaintext, ciphertext, blocksOf};
+ghost use Rattle.mode.specs.Mode.{plaintext, ciphertext, blocksOf, inWords};
 ghost use Rattle.mode.specs.Aes.{aes};
 ghost use Rattle.mode.specs.Table.{firstRow, limit};
 ghost use Rattle.mode.specs.Calls.{sealRunRows, blocksOfRun, passFrom, runRecord, sealRun, checkRun, runAnswerOf, recordAnswerOf};
@@ -67,7 +68,7 @@ fn seal_run_into(
     requires { ⌜ laidOutLength last (length (now bytes)) ≤ length (now out) ⌝ }
     requires { ⌜ laidOutLength last (length (now bytes)) % 16 ≡ 0 ⌝ }
     requires { ⌜ laidOutLength last (length (now bytes)) / 16 ≤ limit ⌝ }
-    ensures answer { λ a. ⌜ a ≡ runGiven (laidOutLength last (length (now (bytes .entry)))) (runRecord aes plaintext (now (key .entry)) (now (iv .entry)) first (blocksOfRun (kindOf last) (now (bytes .entry)))) ⌝ }
+    ensures answer { λ a. ⌜ a ≡ runGiven (laidOutLength last (length (now (bytes .entry)))) (runRecord inWords aes plaintext (now (key .entry)) (now (iv .entry)) first (blocksOfRun (kindOf last) (now (bytes .entry)))) ⌝ }
     ensures output { λ _. ⌜ now (out .exit) ≡ (passFrom aes plaintext (now (key .entry)) (now (iv .entry)) first (blocksOfRun (kindOf last) (now (bytes .entry)))) .output ++ zeros (length (now (out .entry)) - laidOutLength last (length (now (bytes .entry)))) ⌝ }
 {
     let size = crate::text::laid_out_length(bytes, last);
@@ -101,8 +102,8 @@ pub fn seal_run(
     bytes: &[u8],
     out: &mut [u8],
 ) -> RunAnswer
-    ensures answer { λ a. ⌜ a ≡ runAnswerOf (sealRun aes (now (key .entry)) (now (iv .entry)) first (kindOf last) (now (bytes .entry)) (length (now (out .entry)))) ⌝ }
-    ensures output { λ _. ⌜ now (out .exit) ≡ (sealRun aes (now (key .entry)) (now (iv .entry)) first (kindOf last) (now (bytes .entry)) (length (now (out .entry)))) .output ⌝ }
+    ensures answer { λ a. ⌜ a ≡ runAnswerOf (sealRun inWords aes (now (key .entry)) (now (iv .entry)) first (kindOf last) (now (bytes .entry)) (length (now (out .entry)))) ⌝ }
+    ensures output { λ _. ⌜ now (out .exit) ≡ (sealRun inWords aes (now (key .entry)) (now (iv .entry)) first (kindOf last) (now (bytes .entry)) (length (now (out .entry)))) .output ⌝ }
 {
     blocks::block::clear(out);
     let refusal = seal_run_refusal(key, iv, first, last, bytes, out.len());
@@ -121,7 +122,7 @@ fn refused(refusal: u8) -> RunAnswer
         run: RunRecord {
             first: 0,
             count: 0,
-            preauthenticator: [0u8; 16],
+            preauthenticator: Words { high: 0, low: 0 },
         },
     }
 }
@@ -132,7 +133,7 @@ fn check_run_record(key: &[u8], iv: &[u8], first: u32, bytes: &[u8]) -> RunRecor
     requires { ⌜ length (now key) ≡ 16 ⌝ }
     requires { ⌜ length (now iv) ≡ 16 ⌝ }
     requires { ⌜ length (now bytes) / 16 ≤ limit ⌝ }
-    ensures { λ r. ⌜ r ≡ runRecord aes ciphertext (now (key .entry)) (now (iv .entry)) first (blocksOf (now (bytes .entry))) ⌝ }
+    ensures { λ r. ⌜ r ≡ runRecord inWords aes ciphertext (now (key .entry)) (now (iv .entry)) first (blocksOf (now (bytes .entry))) ⌝ }
 {
     let inv_sbox = &aes::inv_sbox::INV_SBOX;
     let p = crate::prepare::prepare(key, iv);
@@ -150,7 +151,7 @@ fn check_run_record(key: &[u8], iv: &[u8], first: u32, bytes: &[u8]) -> RunRecor
 
 // CHECK A RUN of ciphertext: the record that sealing would give.
 pub fn check_run(key: &[u8], iv: &[u8], first: u32, bytes: &[u8]) -> RecordAnswer
-    ensures { λ a. ⌜ a ≡ recordAnswerOf (checkRun aes (now (key .entry)) (now (iv .entry)) first (now (bytes .entry))) ⌝ }
+    ensures { λ a. ⌜ a ≡ recordAnswerOf (checkRun inWords aes (now (key .entry)) (now (iv .entry)) first (now (bytes .entry))) ⌝ }
 {
     let refusal = run_refusal(key, iv, first, bytes.len());
     if refusal != 0 {

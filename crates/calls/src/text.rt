@@ -1,9 +1,11 @@
 // A run's text, laid out in an output that holds zeros, and sealed there.
+use blocks::words::Words;
 ghost use mathlib.Core.Path.{_≡_};
 ghost use mathlib.Core.List.{_++_};
 ghost use Prim.Native.Nat.{_-_, _%_, _≤_};
 ghost use lib.ListN.{length};
 ghost use Rattle.blocks.specs.Bytes.{zeros};
+ghost use Rattle.blocks.specs.Words.{bytesOf};
 ghost use Rattle.fips197.specs.Sbox.{sbox as sboxOf};
 ghost use Rattle.aes.specs.Table.{Tabulates};
 ghost use Rattle.mode.specs.Mode.{plaintext, zeroBlock, blocksOf, pass};
@@ -51,7 +53,7 @@ pub fn lay_out(bytes: &[u8], last: bool, out: &mut [u8])
 pub fn seal_text(
     bytes: &[u8],
     last: bool,
-    mask: [u8; 16],
+    mask: Words,
     keys: &[u8; 176],
     sbox: &[u8; 256],
     out: &mut [u8],
@@ -61,7 +63,7 @@ pub fn seal_text(
     requires { ⌜ Fresh (now out) ⌝ }
     requires { ⌜ laidOutLength last (length (now bytes)) ≤ length (now out) ⌝ }
     requires { ⌜ laidOutLength last (length (now bytes)) % 16 ≡ 0 ⌝ }
-    ensures { λ c. ⌜ TextSealed (pass aes plaintext (keyOf (now (keys .entry))) (blocksOf (laidOut last (now (bytes .entry)))) mask zeroBlock) (length (now (out .entry)) - laidOutLength last (length (now (bytes .entry)))) (now (out .exit)) (c .mask) (c .preauthenticator) ⌝ }
+    ensures { λ c. ⌜ TextSealed (pass aes plaintext (keyOf (now (keys .entry))) (blocksOf (laidOut last (now (bytes .entry)))) (bytesOf mask) zeroBlock) (length (now (out .entry)) - laidOutLength last (length (now (bytes .entry)))) (now (out .exit)) (bytesOf (c .mask)) (bytesOf (c .preauthenticator)) ⌝ }
 {
     lay_out(bytes, last, out);
     let size = laid_out_length(bytes, last);

@@ -9,7 +9,7 @@ use Rattle.blocks.specs.Gf128.{carry, shiftLeft, reduction, timesX, jump, lowBi
 use Rattle.fips197.specs.Gf256.{power, inverse}
 use Rattle.fips197.specs.Sbox.{affine, sbox}
 use Rattle.mode.specs.declared.RunRecord.{RunRecord}
-use Rattle.mode.specs.Mode.{zeroBlock, blocksOf, padded}
+use Rattle.mode.specs.Mode.{zeroBlock, blocksOf, padded, inWords}
 use Rattle.mode.specs.Table.{given, decide, limit, not16, beyond, anyBeyond, tooFar, apart}
 use Rattle.mode.specs.Calls.{blocksOfRun, outcomeBy, joined, joinTwo, jumpMask}
 use Rattle.mode.proofs.Blocks.{count-last}
@@ -21,7 +21,7 @@ unfolding result jumpMask outcomeBy decide not16 tooFar jumpBy overX shiftRight 
 all-agree = refl
 
 -- neighbours within the limit are joined
-join-neighbours : (l r : RunRecord) → l .first + l .count ≤ limit → r .first + r .count ≤ limit → l .first + l .count ≡ r .first → joinTwo l r ≡ given (joined l r)
+join-neighbours : (l r : RunRecord) → l .first + l .count ≤ limit → r .first + r .count ≤ limit → l .first + l .count ≡ r .first → joinTwo inWords l r ≡ given (joined inWords l r)
 unfolding joinTwo decide anyBeyond beyond apart
 join-neighbours l r h k e =
     rw (le-ltb limit (l .first + l .count) h, le-ltb limit (r .first + r .count) k, eq-eqb (l .first + l .count) (r .first) e) refl

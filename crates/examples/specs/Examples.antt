@@ -9,7 +9,7 @@ use Rattle.blocks.specs.Bytes.{zeros}
 use Rattle.blocks.specs.Gf128.{timesX}
 use Rattle.fips197.specs.Sbox.{sbox}
 use Rattle.mode.specs.declared.RunRecord.{RunRecord}
-use Rattle.mode.specs.Mode.{zeroBlock}
+use Rattle.mode.specs.Mode.{zeroBlock, inWords}
 use Rattle.mode.specs.Table.{Answer, given, limit}
 use Rattle.mode.specs.Calls.{Outcome, last, blocksOfRun, joinTwo, jumpMask}
 
@@ -36,7 +36,7 @@ result (jumps mask distance) = outcome (jumpMask mask distance 16)
 result (multiplies b) = block (timesX b)
 result (substitutes b) = byte (sbox b)
 result (pads message) = several (blocksOfRun last message)
-result (joins l r) = answer (joinTwo l r)
+result (joins l r) = answer (joinTwo inWords l r)
 
 -- ---- the table
 
@@ -98,7 +98,7 @@ AllAgree = map (λ (row : Question × Result). result (row .0)) table ≡ map (�
 abbrev pub EmptyNeighbour : Type 0
 EmptyNeighbour =
     (r : RunRecord) → length (r .preauthenticator) ≡ 16 → r .first + r .count ≤ limit
-    → joinTwo r (record { first = r .first + r .count; count = 0; preauthenticator = zeroBlock }) ≡ given r
+    → joinTwo inWords r (record { first = r .first + r .count; count = 0; preauthenticator = zeroBlock }) ≡ given r
 
 -- (g), (h), (i), of every message: it pads to one block more than it fills
 abbrev pub PaddedCount : Type 0

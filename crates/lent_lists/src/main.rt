@@ -9,12 +9,13 @@ use mode::RunRecord;
 ghost use mathlib.Core.Path.{_≡_};
 ghost use Prim.Native.Nat.{_≤_};
 ghost use lib.ListN.{take};
+ghost use Rattle.mode.specs.Mode.{inWords};
 ghost use Rattle.mode.specs.Calls.{joinList, recordAnswerOf};
 
 // The first n of three records, lent as a list and joined.
 fn join(records: [RunRecord; 3], n: usize) -> RecordAnswer
     requires { ⌜ n ≤ 3 ⌝ }
-    ensures { λ a. ⌜ a ≡ recordAnswerOf (joinList (take n records)) ⌝ }
+    ensures { λ a. ⌜ a ≡ recordAnswerOf (joinList inWords (take n records)) ⌝ }
 {
     record_list::join_list(&records[0..n])
 }

@@ -42,7 +42,7 @@ pub keeps-none : Keeps noPower
 keeps-none = record { right = λ e. absurd (let z : _≡_ {A = ℕ} 0 1 = cc in omega arith); room = lit< tt }
 
 -- THE POWER THAT IS USED is the variable to the count for which it is asked
-worked-right : (k : LastPower) (n : ℕ) → bytesOf ((workedOut k n) .power) ≡ power (pos n)
+pub worked-right : (k : LastPower) (n : ℕ) → bytesOf ((workedOut k n) .power) ≡ power (pos n)
 unfolding workedOut power
 worked-right k n = bytes-words (jumpBy (pos n) one) (block-jumpBy (pos n) one block-one)
 

@@ -8,6 +8,7 @@ use native.Mathlib.Numerals.{add-one}
 use lib.Dec.{eqb}
 use lib.ListN.{length, getD, drop, drop-of-length-le}
 use lib.Seq.{drop-cons}
+use Rattle.mode.specs.Mode.{inWords}
 use Rattle.mode.specs.declared.RunRecord.{RunRecord}
 use Rattle.mode.specs.declared.RecordAnswer.{RecordAnswer}
 use Rattle.mode.specs.declared.power.LastPower.{LastPower}
@@ -15,7 +16,7 @@ use Rattle.mode.specs.declared.KeptAnswer.{KeptAnswer}
 use Rattle.mode.specs.Table.{Answer, refused, given}
 use Rattle.mode.specs.Calls.{joinTwo}
 use Rattle.mode.specs.Powers.{noPower, IsPower, Keeps, workedOut, powerFor, keptAfter, joinKeeping}
-use Rattle.mode.proofs.Powers.{keeps-none}
+use Rattle.mode.proofs.Powers.{keeps-none, worked-right}
 use Rattle.record_list.specs.Onto.{kept, started, unjoined, ontoOf, ontoAll}
 use Rattle.record_list.specs.Counted.{Counted, powersOf, joinedFront}
 use Rattle.record_list.proofs.Fold.{list-joined}
@@ -46,7 +47,7 @@ module _ (i : ℕ) where
     where
       by : (b : Bool) → Right (i + 1) (cond b k (workedOut k n))
       by true = right-later k h
-      by false = record { right = λ e. refl; few = let f = h .few in omega arith }
+      by false = record { right = λ e. worked-right k n; few = let f = h .few in omega arith }
 
   right-after : (a : Answer RunRecord) (k : LastPower) (n : ℕ) → Right i k → Right (i + 1) (keptAfter a k n)
   unfolding keptAfter
@@ -58,7 +59,7 @@ module _ (i : ℕ) where
   right-onto s r h = by (eqb (s .answer .refusal) 0)
     where
       by : (b : Bool) → Right (i + 1) ((cond b (joinKeeping (s .answer .run) r (s .last)) (kept (unjoined (s .answer .refusal) r) (s .last))) .last)
-      by true = right-after (joinTwo (s .answer .run) r) (s .last) (r .count) h
+      by true = right-after (joinTwo inWords (s .answer .run) r) (s .last) (r .count) h
       by false = right-later (s .last) h
 
 -- ---- the loop's invariant

@@ -3,6 +3,7 @@ use mathlib.Core.Path.{_≡_, ap, _∙_}
 use mathlib.Core.Bool.{Bool, true, false, cond, _||_}
 use mathlib.Core.List.{List, [], _∷_}
 use borrow.Author.Tests.{eq-eqb, ne-eqb}
+use Rattle.mode.specs.Mode.{inWords}
 use Rattle.mode.specs.declared.RunRecord.{RunRecord}
 use Rattle.mode.specs.declared.KeptAnswer.{KeptAnswer}
 use Rattle.mode.specs.Table.{beyond, apart}
@@ -10,7 +11,7 @@ use Rattle.mode.specs.Calls.{joinList, recordAnswerOf}
 use Rattle.record_list.specs.Counted.{changes, powersOf, following, joinedFront, Counted}
 
 -- the answer is that of the call
-pub answers : (rs : List RunRecord) (a : KeptAnswer) → Counted rs a → a .answer ≡ recordAnswerOf (joinList rs)
+pub answers : (rs : List RunRecord) (a : KeptAnswer) → Counted rs a → a .answer ≡ recordAnswerOf (joinList inWords rs)
 answers rs a c = c .answer
 
 -- ---- a list that is joined
@@ -53,11 +54,11 @@ module _ (a : KeptAnswer) where
 
   -- the second is, or does not adjoin the first; and so the third
   pub second-refused : (l r : RunRecord) (rs : List RunRecord) → Counted (l ∷ r ∷ rs) a → beyond (l .first) (l .count) ≡ false
-      → (beyond (r .first) (r .count) || apart (l ∷ r ∷ [])) ≡ true → a .last .total ≡ 0
+      → (beyond (r .first) (r .count) || apart inWords (l ∷ r ∷ [])) ≡ true → a .last .total ≡ 0
   unfolding powersOf joinedFront following
   second-refused l r rs c e h = c .front ∙ rw (e, h)
 
   pub third-refused : (l r s : RunRecord) (rs : List RunRecord) → Counted (l ∷ r ∷ s ∷ rs) a → beyond (l .first) (l .count) ≡ false
-      → (beyond (r .first) (r .count) || apart (l ∷ r ∷ [])) ≡ false → (beyond (s .first) (s .count) || apart (r ∷ s ∷ [])) ≡ true → a .last .total ≡ 1
+      → (beyond (r .first) (r .count) || apart inWords (l ∷ r ∷ [])) ≡ false → (beyond (s .first) (s .count) || apart inWords (r ∷ s ∷ [])) ≡ true → a .last .total ≡ 1
   unfolding powersOf changes joinedFront following
   third-refused l r s rs c e g h = c .front ∙ rw (e, g, h)

@@ -6,6 +6,7 @@ use Prim.Native.Nat.{ℕ, _+_}
 use native.Mathlib.Omega.{arith}
 use lib.Dec.{eqb}
 use borrow.Author.Tests.{eqb-true}
+use Rattle.mode.specs.Mode.{inWords}
 use Rattle.mode.specs.declared.RunRecord.{RunRecord}
 use Rattle.mode.specs.declared.power.LastPower.{LastPower}
 use Rattle.mode.specs.Table.{decide, beyond, anyBeyond, apart, none}
@@ -41,24 +42,24 @@ total-powers (l ∷ r ∷ rs) = total-changes (workedOut noPower (r .count)) rs 
 
 -- ---- a list that is joined is its own front
 
-all-follow : (l : RunRecord) (rs : List RunRecord) → anyBeyond rs ≡ false → apart (l ∷ rs) ≡ false → following l rs ≡ rs
+all-follow : (l : RunRecord) (rs : List RunRecord) → anyBeyond inWords rs ≡ false → apart inWords (l ∷ rs) ≡ false → following l rs ≡ rs
 unfolding anyBeyond apart following
 all-follow l [] h g = refl
 all-follow l (r ∷ rs) h g = by (beyond (r .first) (r .count)) (not (eqb (l .first + l .count) (r .first))) h g (all-follow r rs)
   where
-    by : (b e : Bool) → (b || anyBeyond rs) ≡ false → (e || apart (r ∷ rs)) ≡ false
-        → (anyBeyond rs ≡ false → apart (r ∷ rs) ≡ false → following r rs ≡ rs) → cond (b || (e || false)) [] (r ∷ following r rs) ≡ r ∷ rs
+    by : (b e : Bool) → (b || anyBeyond inWords rs) ≡ false → (e || apart inWords (r ∷ rs)) ≡ false
+        → (anyBeyond inWords rs ≡ false → apart inWords (r ∷ rs) ≡ false → following r rs ≡ rs) → cond (b || (e || false)) [] (r ∷ following r rs) ≡ r ∷ rs
     by false false h g others = ap (λ (t : List RunRecord). r ∷ t) (others h g)
     by false true h g others = absurd (let z : _≡_ {A = ℕ} 0 1 = cc in omega arith)
     by true e h g others = absurd (let z : _≡_ {A = ℕ} 0 1 = cc in omega arith)
 
-pub whole-front : (rs : List RunRecord) → (recordAnswerOf (joinList rs)) .refusal ≡ 0 → joinedFront rs ≡ rs
+pub whole-front : (rs : List RunRecord) → (recordAnswerOf (joinList inWords rs)) .refusal ≡ 0 → joinedFront rs ≡ rs
 unfolding joinList decide recordAnswerOf number joinedFront anyBeyond
 whole-front [] e = refl
-whole-front (l ∷ rs) e = by (beyond (l .first) (l .count)) (anyBeyond rs) (apart (l ∷ rs)) refl refl e
+whole-front (l ∷ rs) e = by (beyond (l .first) (l .count)) (anyBeyond inWords rs) (apart inWords (l ∷ rs)) refl refl e
   where
-    by : (b d a : Bool) → anyBeyond rs ≡ d → apart (l ∷ rs) ≡ a
-        → number (decide ((4, b || d) ∷ (8, a) ∷ (9, none (l ∷ rs)) ∷ []) (joinedAll (l ∷ rs))) ≡ 0 → cond b [] (l ∷ following l rs) ≡ l ∷ rs
+    by : (b d a : Bool) → anyBeyond inWords rs ≡ d → apart inWords (l ∷ rs) ≡ a
+        → number (decide ((4, b || d) ∷ (8, a) ∷ (9, none (l ∷ rs)) ∷ []) (joinedAll inWords (l ∷ rs))) ≡ 0 → cond b [] (l ∷ following l rs) ≡ l ∷ rs
     by true d a u v e = absurd (omega arith)
     by false true a u v e = absurd (omega arith)
     by false false true u v e = absurd (omega arith)

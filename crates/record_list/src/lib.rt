@@ -5,6 +5,7 @@ use mode::RecordAnswer;
 use mode::RunRecord;
 use mode::power::LastPower;
 ghost use mathlib.Core.Path.{_≡_};
+ghost use Rattle.mode.specs.Mode.{inWords};
 ghost use Rattle.mode.specs.Calls.{joinList, recordAnswerOf};
 ghost use Rattle.mode.specs.Powers.{Keeps};
 ghost use Rattle.record_list.specs.Onto.{started, unlessBeyond, unjoined as unjoinedOf, ontoOf};
@@ -80,7 +81,7 @@ fn join_counted(records: &[RunRecord]) -> KeptAnswer
 
 // THE CALL: a lent list joined, in message order.
 pub fn join_list(records: &[RunRecord]) -> RecordAnswer
-    ensures { λ a. ⌜ a ≡ recordAnswerOf (joinList (now (records .entry))) ⌝ }
+    ensures { λ a. ⌜ a ≡ recordAnswerOf (joinList inWords (now (records .entry))) ⌝ }
 {
     let counted = join_counted(records);
     counted.answer

@@ -47,6 +47,7 @@ use denote.Exit.{yes}
 use denote.Triple.Clauses.{ensured, lasts}
 use borrow.Table.Elements.{at as place, cut-app, join-app}
 use borrow.Rule.Slice.Shared.{Sh, parts-cells}
+use Rattle.mode.specs.Mode.{inWords}
 use Rattle.mode.specs.declared.RunRecord.{RunRecord}
 use Rattle.mode.specs.declared.RecordAnswer.{RecordAnswer}
 use Rattle.mode.specs.Calls.{joinList, recordAnswerOf}
@@ -187,7 +188,7 @@ module _ {M : Type 1} (𝓤 : URA M) (H : Heap 𝓤) (A : Atoms 𝓤) (W : Given
       nothing ! $ move ! (1 ∷ 0 ∷ []) $ fjoin ! $ move ! (1 ∷ 0 ∷ []) $ join ! $ frame ! $ done !
 
   abbrev Said : RecordAnswer → Type 0
-  Said a = a ≡ recordAnswerOf (joinList list)
+  Said a = a ≡ recordAnswerOf (joinList inWords list)
 
   said : (α l : ℕ) (γ : GName) (a : RecordAnswer) → ent 𝓤 (ensured 𝓤 H A callee.ended (callee.clauses 𝓤 H A mem run) (α ∷ [], tt) (slice l γ, tt) tt a) (fact 𝓤 (Said a))
   said α l γ a = exE 𝓤 _ (λ ws. snd∗ 𝓤 (sem 𝓤 H A (lasts callee.ended (α ∷ [], tt) (slice l γ, tt) ws)) (fact 𝓤 (Said a)))

@@ -42,6 +42,7 @@ use denote.Triple.Statement.{Contract, Triple}
 use denote.Triple.Call.{calls-at}
 use denote.Triple.Clauses.{ensured, lasts}
 use denote.Triple.Walked.{says, walkOf, ends-at}
+use Rattle.mode.specs.Mode.{inWords}
 use Rattle.mode.specs.declared.RunRecord.{RunRecord}
 use Rattle.mode.specs.declared.KeptAnswer.{KeptAnswer}
 use Rattle.mode.specs.Calls.{blank}
@@ -250,12 +251,12 @@ module _ {M : Type 1} (𝓤 : URA M) (H : Heap 𝓤) (A : Atoms 𝓤) (W : Given
         rewrite ! 2 (λ (p : ℕ). has tyPtr l₇ (vptr b p)) (sym (place-is 24 o (t .i))) refl $
         move ! (18 ∷ 19 ∷ []) $
         looks-slice ! tt rec.the-row (Is rec.the-row) (shows 𝓤 H A rec.the-row) (laws.vals rec.the-type rec-laws.the-laws) (laws.tells rec.the-type rec-laws.the-laws) (laws.copy rec.the-type rec-laws.the-copy 𝓤 H A W) rs b o (λ q′.
-        elem-out ! rec.the-row (Is rec.the-row) (shows 𝓤 H A rec.the-row) (laws.vals rec.the-type rec-laws.the-laws) (laws.tells rec.the-type rec-laws.the-laws) q′ rs (t .i) blank b o l (λ g.
-        let r : RunRecord = getD rs (t .i) blank in
+        elem-out ! rec.the-row (Is rec.the-row) (shows 𝓤 H A rec.the-row) (laws.vals rec.the-type rec-laws.the-laws) (laws.tells rec.the-type rec-laws.the-laws) q′ rs (t .i) (blank inWords) b o l (λ g.
+        let r : RunRecord = getD rs (t .i) (blank inWords) in
         let wt : Holds (hasTy rec-laws.mir (rec-val r)) × WT (rec-val r) = laws.lawful rec.the-type rec-laws.the-laws 𝓤 H A W .typed r _ g .0 in
         assigns ! (of-opd ! (load ! (from ! (hop ! (look ! 7 refl) (stop !))) (look-raw ! 0 refl))) (from ! (stop !)) (init ! 5 refl wt) $
         assigns ! (of-opd ! (load ! (from ! (stop !)) (look ! 5 refl))) (from ! (stop !)) (init ! 13 refl wt) $
-        elem-back ! rec.the-row q′ rs (t .i) blank (laws.vals rec.the-type rec-laws.the-laws r) b o l $ shuts-slice ! tt rec.the-row q′ rs b o $
+        elem-back ! rec.the-row q′ rs (t .i) (blank inWords) (laws.vals rec.the-type rec-laws.the-laws r) b o l $ shuts-slice ! tt rec.the-row q′ rs b o $
         owned ! rec.the-row (Is rec.the-row) (laws.makes rec.the-type rec-laws.the-plain 𝓤 H A) r _ g $
         owned ! ans.the-row (Is ans.the-row) (laws.makes ans.the-type ans-laws.the-plain 𝓤 H A) (t .answer) _ (t .is) $
         use2 W (raw (Onto 𝓤 H A mem run .pre (to-onto (t .answer) (t .val) r))) (takes-both (t .answer) (t .val) r (keeps rs (t .i) (t .answer) (t .going) (omega (arith, room .0)))) $
@@ -266,7 +267,7 @@ module _ {M : Type 1} (𝓤 : URA M) (H : Heap 𝓤) (A : Atoms 𝓤) (W : Given
         land ! (from ! (stop !)) (store ! 15 refl (typed a v is)) $
         forget ! 3 refl $ forget ! 5 refl $ forget ! 7 refl $ forget ! 9 refl $ forget ! 11 refl $
         keep ! (3 ∷ 4 ∷ 5 ∷ 6 ∷ 7 ∷ 8 ∷ 9 ∷ 10 ∷ 11 ∷ 12 ∷ 13 ∷ 14 ∷ 15 ∷ 16 ∷ 17 ∷ 18 ∷ 19 ∷ 20 ∷ 2 ∷ 1 ∷ 21 ∷ 22 ∷ []) $
-        steps t l a v is (turn rs (t .i) (t .answer) (t .going) blank a l given) _ tt (omega arith)))))))
+        steps t l a v is (turn rs (t .i) (t .answer) (t .going) (blank inWords) a l given) _ tt (omega arith)))))))
 
     -- the end: nothing is left, so the answer so far is the answer
     ends : (t : Upto) → n ≤ t .i → Sq W (Tested t false) (runs C Λ En (rest (rest turn-1)) (anyQ (Turned t)))

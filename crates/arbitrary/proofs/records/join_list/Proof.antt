@@ -27,6 +27,7 @@ use denote.Triple.Spec.{Meets, tripleOf}
 use denote.Triple.Table.{entered, cited}
 use denote.Triple.Walked.{says, walkOf, ends-at}
 use denote.Triple.Clauses.{ensured, lasts}
+use Rattle.mode.specs.Mode.{inWords}
 use Rattle.mode.specs.declared.RunRecord.{RunRecord}
 use Rattle.mode.specs.declared.RecordAnswer.{RecordAnswer}
 use Rattle.mode.specs.Calls.{joinList, recordAnswerOf}
@@ -60,7 +61,7 @@ module _ {M : Type 1} (𝓤 : URA M) (H : Heap 𝓤) (A : Atoms 𝓤) (W : Given
   to = (((κ, tt), (q, tt), tt, (s, tt), (v ∷ [], tt)), tt)
 
   abbrev Said : RecordAnswer → Type 0
-  Said a = a ≡ recordAnswerOf (joinList (now s))
+  Said a = a ≡ recordAnswerOf (joinList inWords (now s))
 
   said : (a : RecordAnswer) → ent 𝓤 (ensured 𝓤 H A callee.ended (callee.clauses 𝓤 H A mem run) (κ, tt) (s, tt) tt a) (fact 𝓤 (Said a))
   said a = exE 𝓤 _ (λ ws. snd∗ 𝓤 (sem 𝓤 H A (lasts callee.ended (κ, tt) (s, tt) ws)) (fact 𝓤 (Said a)))

@@ -4,6 +4,7 @@ use mathlib.Core.Path.{ap, _∙_}
 use Prim.Native.Nat.{_+_, _-_, _/_, _<_, _≤_, _^_}
 use native.Mathlib.Omega.{arith}
 use lib.ListN.{length}
+use Rattle.mode.specs.Mode.{inWords}
 use Rattle.mode.specs.Calls.{blank}
 use Rattle.record_list.specs.Onto.{ontoOf}
 use Rattle.record_list.proofs.Loop.{Going, begins, keeps, turn, ends}
@@ -46,8 +47,8 @@ loop-again c =
     let t : l .i < length b / 24 = c .before .before .loop-test .taken in
     let h : l .i < length (recordsOf b) = rw (length-records b) t in (
       omega arith,
-      turn (recordsOf b) (l .i) (l .so-far) (l .inv .1) blank (c .onto .result) h
-          (c .onto .ensures ∙ ap (ontoOf (l .so-far)) (c .before .record-at .ensures ∙ record-is b (l .i) blank t)),
+      turn (recordsOf b) (l .i) (l .so-far) (l .inv .1) (blank inWords) (c .onto .result) h
+          (c .onto .ensures ∙ ap (ontoOf (l .so-far)) (c .before .record-at .ensures ∙ record-is b (l .i) (blank inWords) t)),
     )
 
 returns : tie.Need-returns Inv-loop μ-loop

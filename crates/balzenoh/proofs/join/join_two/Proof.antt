@@ -1,6 +1,7 @@
 -- Not records, or joined.
 use borrow.Author.Needs.{needs}
 use mathlib.Core.Path.{ap₂, _∙_}
+use Rattle.mode.specs.Mode.{inWords}
 use Rattle.mode.specs.declared.RunRecord.{RunRecord}
 use Rattle.mode.specs.Calls.{joinTwo, recordAnswerOf}
 use Rattle.balzenoh.specs.Exports.{joinBytes}
@@ -33,7 +34,7 @@ join-requires c κs = search needs
 
 returns-3 : tie.Need-returns-3
 unfolding joinBytes
-returns-3 c = let a = c .before .before .before .before .before .before .before .args in rw (a-record (a .left .now) (c .before .before .before .before .if1 .left), a-record (a .right .now) (c .before .before .before .if2 .left)) (c .join .ensures ∙ ap₂ (λ (l r : RunRecord). recordAnswerOf (joinTwo l r)) (c .before .before .decode .ensures) (c .before .decode2 .ensures))
+returns-3 c = let a = c .before .before .before .before .before .before .before .args in rw (a-record (a .left .now) (c .before .before .before .before .if1 .left), a-record (a .right .now) (c .before .before .before .if2 .left)) (c .join .ensures ∙ ap₂ (λ (l r : RunRecord). recordAnswerOf (joinTwo inWords l r)) (c .before .before .decode .ensures) (c .before .decode2 .ensures))
 
 pub join-two-spec : {M : Type 1} → statement M
 join-two-spec =

@@ -1,6 +1,7 @@
 -- Not a record, or tested.
 use borrow.Author.Needs.{needs}
 use mathlib.Core.Path.{refl, ap, _∙_}
+use Rattle.mode.specs.Mode.{inWords}
 use Rattle.mode.specs.declared.RunRecord.{RunRecord}
 use Rattle.mode.specs.Aes.{aes}
 use Rattle.mode.specs.Calls.{test, number}
@@ -21,7 +22,7 @@ test-requires c κs = search needs
 
 returns-2 : tie.Need-returns-2
 unfolding testBytes
-returns-2 c = let a = c .before .before .before .before .before .before .before .args in rw (a-record (a .run .now) (c .before .before .if1 .left)) (c .test .ensures ∙ ap (λ (r : RunRecord). number (test aes (a .key .now) (a .iv .now) r (a .tag .now))) (c .before .decode .ensures))
+returns-2 c = let a = c .before .before .before .before .before .before .before .args in rw (a-record (a .run .now) (c .before .before .if1 .left)) (c .test .ensures ∙ ap (λ (r : RunRecord). number (test inWords aes (a .key .now) (a .iv .now) r (a .tag .now))) (c .before .decode .ensures))
 
 pub balzenoh-test-spec : {M : Type 1} → statement M
 balzenoh-test-spec = tie.close (tie.spec returns decode-requires test-requires returns-2)

@@ -6,6 +6,7 @@ use Prim.Native.Nat.{_-_}
 use native.Mathlib.Omega.{arith}
 use lib.ListN.{length}
 use Rattle.blocks.specs.Bytes.{same}
+use Rattle.mode.specs.Mode.{inWords}
 use Rattle.mode.specs.Aes.{aes}
 use Rattle.mode.specs.Calls.{closingTag, test as testOf, number}
 use Rattle.mode.specs.Table.{firstRow}
@@ -43,15 +44,15 @@ equal-requires : tie.Need-equal-requires
 equal-requires c κs = search needs
 
 -- the comparison of the tag that closing gives with the tag handed in
-tested : (c : tie.After-equal) → number (testOf aes (c .before .before .before .before .before .before .before .before .args .key .now) (c .before .before .before .before .before .before .before .before .args .iv .now) (c .before .before .before .before .before .before .before .before .args .run) (c .before .before .before .before .before .before .before .before .args .tag .now))
+tested : (c : tie.After-equal) → number (testOf inWords aes (c .before .before .before .before .before .before .before .before .args .key .now) (c .before .before .before .before .before .before .before .before .args .iv .now) (c .before .before .before .before .before .before .before .before .args .run) (c .before .before .before .before .before .before .before .before .args .tag .now))
     ≡ cond (c .equal .result) 0 6
 unfolding testOf
 tested c =
     let a = c .before .before .before .before .before .before .before .before .args in
     let e : firstRow (testFirstRows (a .key .now) (a .iv .now) (a .run) (a .tag .now)) ≡ 0 = sym (c .before .before .before .before .test-refusal .ensures) ∙ c .before .before .before .if1 .left in
-    let t : c .equal .result ≡ same (closingTag aes (a .key .now) (a .iv .now) (a .run)) (a .tag .now) =
+    let t : c .equal .result ≡ same (closingTag inWords aes (a .key .now) (a .iv .now) (a .run)) (a .tag .now) =
     c .equal .ensures ∙ ap₂ same (c .before .before .closing-tag .ensures) (c .before .load .ensures ∙ whole-16 (a .tag .now) (tag-16 (a .key .now) (a .iv .now) (a .tag .now) _ e)) in
-    sym (test-answer (testFirstRows (a .key .now) (a .iv .now) (a .run) (a .tag .now)) (same (closingTag aes (a .key .now) (a .iv .now) (a .run)) (a .tag .now)) tt e)
+    sym (test-answer (testFirstRows (a .key .now) (a .iv .now) (a .run) (a .tag .now)) (same (closingTag inWords aes (a .key .now) (a .iv .now) (a .run)) (a .tag .now)) tt e)
     ∙ ap (λ (u : Bool). cond u 0 6) (sym t)
 
 returns-2 : tie.Need-returns-2

@@ -6,7 +6,7 @@ use native.Mathlib.Omega.{arith}
 use lib.ListN.{length}
 use Rattle.mode.specs.Aes.{aes}
 use Rattle.mode.specs.declared.RunRecord.{RunRecord}
-use Rattle.mode.specs.Mode.{ciphertext, blocksOf}
+use Rattle.mode.specs.Mode.{ciphertext, blocksOf, inWords}
 use Rattle.mode.specs.Table.{firstRow, limit}
 use Rattle.mode.specs.Calls.{checkRunRows, runRecord, checkRun}
 use Rattle.mode.proofs.Blocks.{count-middle}
@@ -36,7 +36,7 @@ returns c =
     let a = c .before .before .before .before .before .before .args in
     let x = c .before .before .run-refusal in
     c .refused .ensures
-    ∙ refused-record _ (x .result) (refuses (checkRunRows aes (a .key .now) (a .iv .now) (a .first) (a .bytes .now)) (runRecord aes ciphertext (a .key .now) (a .iv .now) (a .first) (blocksOf (a .bytes .now))) (x .result) (at-bytes (c .before .before)) (c .before .if1 .taken))
+    ∙ refused-record _ (x .result) (refuses (checkRunRows aes (a .key .now) (a .iv .now) (a .first) (a .bytes .now)) (runRecord inWords aes ciphertext (a .key .now) (a .iv .now) (a .first) (blocksOf (a .bytes .now))) (x .result) (at-bytes (c .before .before)) (c .before .if1 .taken))
 
 check-run-record-requires : tie.Need-check-run-record-requires
 check-run-record-requires c κs =
@@ -51,7 +51,7 @@ returns-2 c =
     let a = c .before .before .before .before .before .before .args in
     let x = c .before .before .run-refusal in
     ap (λ (r : RunRecord). record { refusal = 0; run = r }) (c .check-run-record .ensures)
-    ∙ given-record _ _ (gives (checkRunRows aes (a .key .now) (a .iv .now) (a .first) (a .bytes .now)) (runRecord aes ciphertext (a .key .now) (a .iv .now) (a .first) (blocksOf (a .bytes .now))) (x .result) tt (at-bytes (c .before .before)) (c .before .if1 .left))
+    ∙ given-record _ _ (gives (checkRunRows aes (a .key .now) (a .iv .now) (a .first) (a .bytes .now)) (runRecord inWords aes ciphertext (a .key .now) (a .iv .now) (a .first) (blocksOf (a .bytes .now))) (x .result) tt (at-bytes (c .before .before)) (c .before .if1 .left))
 
 pub check-run-spec : {M : Type 1} → statement M
 check-run-spec =

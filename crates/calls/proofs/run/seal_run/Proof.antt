@@ -6,7 +6,7 @@ use Prim.Native.Nat.{ℕ, _+_, _-_}
 use native.Mathlib.Omega.{arith}
 use lib.ListN.{length}
 use Rattle.blocks.specs.Bytes.{zeros}
-use Rattle.mode.specs.Mode.{plaintext}
+use Rattle.mode.specs.Mode.{plaintext, inWords}
 use Rattle.mode.specs.Aes.{aes}
 use Rattle.mode.specs.Table.{firstRow}
 use Rattle.mode.specs.Calls.{sealRunRows, blocksOfRun, passFrom, runRecord, sealRun}
@@ -43,7 +43,7 @@ returns c =
     let a = c .before .before .before .before .before .before .before .before .before .before .before .args in
     let room = length (a .out .now) in
     let x = c .before .before .seal-run-refusal in
-    let d = refuses (sealRunRows aes (a .key .now) (a .iv .now) (a .first) (kindOf (a .last)) (a .bytes .now) room) (runRecord aes plaintext (a .key .now) (a .iv .now) (a .first) (blocksOfRun (kindOf (a .last)) (a .bytes .now))) (x .result) (at-room (c .before .before)) (c .before .if1 .taken) in
+    let d = refuses (sealRunRows aes (a .key .now) (a .iv .now) (a .first) (kindOf (a .last)) (a .bytes .now) room) (runRecord inWords aes plaintext (a .key .now) (a .iv .now) (a .first) (blocksOfRun (kindOf (a .last)) (a .bytes .now))) (x .result) (at-room (c .before .before)) (c .before .if1 .taken) in
     (c .refused .ensures ∙ refused-run _ _ room (x .result) d, c .before .before .before .before .before .clear .ensures ∙ refused-output _ _ room (x .result) d)
 
 seal-run-into-requires : tie.Need-seal-run-into-requires
@@ -69,7 +69,7 @@ returns-2 c =
     let e = sym (at-room (c .before .before .before .before .before)) ∙ c .before .before .before .before .if1 .left in
     let f = run-fits (a .key .now) (a .iv .now) (a .first) (a .last) (a .bytes .now) room e in
     let blocks = blocksOfRun (kindOf (a .last)) (a .bytes .now) in
-    let d = gives (sealRunRows aes (a .key .now) (a .iv .now) (a .first) (kindOf (a .last)) (a .bytes .now) room) (runRecord aes plaintext (a .key .now) (a .iv .now) (a .first) blocks) (c .before .before .before .before .before .seal-run-refusal .result) tt (at-room (c .before .before .before .before .before)) (c .before .before .before .before .if1 .left) in
+    let d = gives (sealRunRows aes (a .key .now) (a .iv .now) (a .first) (kindOf (a .last)) (a .bytes .now) room) (runRecord inWords aes plaintext (a .key .now) (a .iv .now) (a .first) blocks) (c .before .before .before .before .before .seal-run-refusal .result) tt (at-room (c .before .before .before .before .before)) (c .before .before .before .before .if1 .left) in
     let l = run-output-long (a .key .now) (a .iv .now) (a .first) (a .last) (a .bytes .now) (key-16 (a .key .now) _ e) (iv-16 (a .key .now) (a .iv .now) _ e) (f .1 .0) in (
       y .ensures .0 ∙ given-run _ _ room _ n d l,
       y .ensures .1 ∙ ap (λ (k : ℕ). (passFrom aes plaintext (a .key .now) (a .iv .now) (a .first) blocks) .output ++ zeros (k - n)) (q .kept .0) ∙ given-output _ _ room _ n d l,
