@@ -1,6 +1,6 @@
--- The laws that callers cite. Numbers: Xor, Linear, Field, Square. Lists: XorBytes, Same, Tab, Chunks, Array, Zeros. Blocks as polynomials: TimesX,
--- OverX, JumpBy, Num, Product, Horner, Spread, Jump. Sign: a signed number as the machine reads it. Test: a rule of many
--- numbers by one computed test.
+-- The laws that callers cite. Numbers: Xor, Linear, Field, Square. Lists: XorBytes, Same, Tab, Chunks, Array, Zeros. Blocks as
+-- polynomials: TimesX, OverX, JumpBy, Num, Product. Two words for a block: Bridge; how the code works in words: WordsX, Spread, Jump,
+-- Horner. Sign: a signed number as the machine reads it. Test: a rule of many numbers by one computed test.
 pub mod Test
 pub mod Xor
 pub mod Linear
@@ -20,6 +20,6 @@ pub mod Num
 pub mod Bridge
 pub mod WordsX
 pub mod Product
-pub mod Horner
 pub mod Spread
 pub mod Jump
+pub mod Horner

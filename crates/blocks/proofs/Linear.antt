@@ -1,6 +1,6 @@
 -- Functions on numbers that go through exclusive or. Each law holds at every number, so that no bound is carried along.
 use mathlib.Core.Path.{_≡_, refl, sym, ap, ap₂, _∙_}
-use Prim.Native.Nat.{ℕ, zero, suc, _+_, _*_, _/_, _%_, _^_, _<_, suc-le-suc, zero-le}
+use Prim.Native.Nat.{ℕ, zero, suc, _*_, _/_, _%_, _^_, _<_, suc-le-suc, zero-le}
 use native.Mathlib.Nat.{add-zero, zero-mul, one-mul, mod-lt, div-add-mod', pow-suc, div-lt-iff-lt-mul}
 use native.Mathlib.Omega.{arith}
 use lib.Arith.{lt-one}

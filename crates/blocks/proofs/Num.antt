@@ -4,14 +4,12 @@ use mathlib.Core.Path.{_≡_, refl, sym, ap, ap₂, _∙_, subst}
 use mathlib.Core.List.{List, [], _∷_, _++_}
 use Prim.Native.Nat.{ℕ, zero, suc, _+_, _*_, _/_, _%_, _^_, _<_}
 use native.Mathlib.Nat.{suc-mul, mul-comm, mul-assoc, add-mul, add-comm, zero-add, zero-mul, div-add-mod', mod-lt, mod-eq-of-lt, suc-inj, mul-div-mul-right}
-use native.Mathlib.Numerals.{add-one}
 use native.Mathlib.Omega.{arith}
 use lib.Arith.{digits-lt, digits-div, digits-mod}
 use lib.Bits.{bitXor, xor-block}
 use lib.Dec.{lit<}
-use lib.ListN.{length, getD, take, length-append}
+use lib.ListN.{length, length-append}
 use lib.Pow.{pow-add, mod-pow-add}
-use lib.Seq.{take-suc}
 use Rattle.blocks.specs.Bytes.{Bytes, Block, xorBytes, zeros}
 use Rattle.blocks.specs.Field.{step, steps}
 use Rattle.blocks.specs.Gf128.{carry, shiftLeft, reduction, timesX, jump, num, lowBytes}
@@ -89,14 +87,6 @@ num-append (x ∷ a) b =
     ap₂ (λ (n z : ℕ). x * 2 ^ (n * 8) + z) (length-append a b) (num-append a b)
     ∙ ap (λ (w : ℕ). x * w + (num a * 2 ^ (length b * 8) + num b)) (ap (λ (z : ℕ). 2 ^ z) e ∙ pow-add 2 (length a * 8) (length b * 8))
     ∙ regroup x (2 ^ (length a * 8)) (2 ^ (length b * 8)) (num a) (num b)
-
--- a byte more
-pub num-take : (a : List ℕ) (i : ℕ) → i < length a → num (take (i + 1) a) ≡ num (take i a) * 2 ^ 8 + getD a i 0
-unfolding num
-num-take a i h =
-    let e : getD a i 0 * 1 + 0 ≡ getD a i 0 = omega arith in
-    ap (λ (n : ℕ). num (take n a)) (add-one i) ∙ ap num (take-suc a i 0 h) ∙ num-append (take i a) (getD a i 0 ∷ [])
-    ∙ ap (λ (z : ℕ). num (take i a) * 2 ^ 8 + z) e
 
 -- ---- exclusive or
 

@@ -1,13 +1,13 @@
--- Divide by x, on blocks: it undoes multiplying by x and is undone by it, and so it goes through exclusive or; and how the code does it.
+-- Divide by x, on blocks: it undoes multiplying by x and is undone by it, and so it goes through exclusive or.
 use mathlib.Core.Path.{_≡_, refl, sym, ap, ap₂, _∙_}
-use mathlib.Core.List.{List, [], _∷_, _++_}
-use Prim.Native.Nat.{ℕ, zero, suc, _+_, _*_, _-_, _/_, _%_, _<_}
-use native.Mathlib.Nat.{mod-lt, suc-inj, not-suc-le-zero, le-of-suc-le-suc}
+use mathlib.Core.List.{List, [], _∷_}
+use Prim.Native.Nat.{ℕ, zero, suc, _+_, _*_, _/_, _%_, _<_}
+use native.Mathlib.Nat.{mod-lt, suc-inj, not-suc-le-zero}
 use native.Mathlib.Omega.{arith}
-use lib.Bits.{bitXor, bitOr, xor-mod, xor-shifted, or-shifted, xor-zero-l, xor-zero-r, xor-self}
+use lib.Bits.{bitXor, xor-mod, xor-shifted, xor-zero-l, xor-self}
 use lib.Dec.{lit<}
-use lib.ListN.{length, getD, getD-replicate, List·getD-append}
-use Rattle.blocks.specs.Bytes.{Bytes, Block, xorBytes, zeros}
+use lib.ListN.{length, getD}
+use Rattle.blocks.specs.Bytes.{Bytes, Block, xorBytes}
 use Rattle.blocks.specs.Gf128.{carry, shiftLeft, reduction, timesX, lowBit, shiftRight, overX}
 use Rattle.blocks.proofs.Xor.{two-pos, xor8}
 use Rattle.blocks.proofs.XorBytes.{length-xor, block-xor, getD-xor, xorBytes-cancel}
@@ -151,63 +151,3 @@ overX-xor a b ha hb =
     let q = block-overX b hb in
     sym (ap overX (timesX-xor (overX a) (overX b) (p .long ∙ sym (q .long)) ∙ ap₂ xorBytes (times-over a ha) (times-over b hb)))
     ∙ over-times (xorBytes (overX a) (overX b)) (block-xor (overX a) (overX b) p q)
-
--- ---- as the code does it: a byte's seven upper bits, and above them the low bit of the byte before
-
-getD-first : (top : ℕ) (a : List ℕ) → 0 < length a → getD (shiftRight top a) 0 0 ≡ bitXor (top * 128) (getD a 0 0 / 2)
-unfolding shiftRight
-getD-first top [] h = absurd (not-suc-le-zero h)
-getD-first top (x ∷ a) h = refl
-
-getD-next : (top i : ℕ) (a : List ℕ) → suc i < length a → getD (shiftRight top a) (suc i) 0 ≡ bitXor (getD a i 0 % 2 * 128) (getD a (suc i) 0 / 2)
-unfolding shiftRight
-getD-next top i [] h = absurd (not-suc-le-zero h)
-getD-next top zero (x ∷ a) h = getD-first (x % 2) a (le-of-suc-le-suc h)
-getD-next top (suc i) (x ∷ a) h = getD-next (x % 2) i a (le-of-suc-le-suc h)
-
-byte-or : (y x : ℕ) → x < 256 → bitOr (y * 128 % 256) (x / 2) ≡ bitXor (y % 2 * 128) (x / 2)
-byte-or y x h =
-    let e : y * 128 % 256 ≡ y % 2 * 128 = omega arith in
-    let k : x / 2 < 128 = omega arith in
-    ap (λ (z : ℕ). bitOr z (x / 2)) e ∙ or-shifted (y % 2) 7 (x / 2) k ∙ sym (xor-shifted (y % 2) 7 (x / 2) k)
-
-module _ (b : List ℕ) (h : Block b) where
-  -- the polynomial leaves all bytes but the last
-  kept : (i : ℕ) → i < 15 → getD (added b) i 0 ≡ getD b i 0
-  unfolding added reduction
-  kept i l =
-      let t = lowBit b in
-      let z : getD (zeros 15 ++ (t * 0x87 ∷ [])) i 0 ≡ 0 = List·getD-append (zeros 15) (t * 0x87 ∷ []) 0 i l ∙ getD-replicate 15 i 0 0 l in
-      getD-xor b (reduction t) i (h .long ∙ sym (length-reduction t)) ∙ ap (bitXor (getD b i 0)) z ∙ xor-zero-r (getD b i 0)
-
-  pub overX-first : bitOr (getD b 15 0 % 2 * 128 % 256) (getD b 0 0 / 2) ≡ getD (overX b) 0 0
-  unfolding overX lowBit added
-  overX-first =
-      let y = getD b 15 0 in
-      let e : y % 2 % 2 ≡ y % 2 = omega arith in
-      byte-or (y % 2) (getD b 0 0) (h .bytes 0) ∙ ap (λ (t : ℕ). bitXor (t * 128) (getD b 0 0 / 2)) e
-      ∙ sym (getD-first (lowBit b) (added b) (omega (arith, length-added b (h .long))) ∙ ap (λ (x : ℕ). bitXor (lowBit b * 128) (x / 2)) (kept 0 (lit< tt)))
-
-  next : (i : ℕ) → i < 14 → bitOr (getD b i 0 * 128 % 256) (getD b (suc i) 0 / 2) ≡ getD (overX b) (suc i) 0
-  unfolding overX added
-  next i l =
-      byte-or (getD b i 0) (getD b (suc i) 0) (h .bytes (suc i))
-      ∙ sym (getD-next (lowBit b) i (added b) (omega (arith, length-added b (h .long)))
-      ∙ ap₂ (λ (y x : ℕ). bitXor (y % 2 * 128) (x / 2)) (kept i (omega arith)) (kept (suc i) (omega arith)))
-
-  -- a byte but the first and the last
-  pub overX-next : (i : ℕ) → 0 < i → i < 15 → bitOr (getD b (i - 1) 0 * 128 % 256) (getD b i 0 / 2) ≡ getD (overX b) i 0
-  overX-next zero k l = absurd (omega arith)
-  overX-next (suc i) k l =
-      let e : suc i - 1 ≡ i = omega arith in
-      ap (λ (j : ℕ). bitOr (getD b j 0 * 128 % 256) (getD b (suc i) 0 / 2)) e ∙ next i (omega arith)
-
-  -- the last, with 87 where the low bit is set
-  pub overX-last : bitOr (getD b 14 0 * 128 % 256) (bitXor (getD b 15 0) (getD b 15 0 % 2 * 0x87) / 2) ≡ getD (overX b) 15 0
-  unfolding overX added reduction lowBit
-  overX-last =
-      let y = getD b 15 0 in
-      let e : getD (added b) 15 0 ≡ bitXor y (y % 2 * 0x87) = getD-xor b (reduction (lowBit b)) 15 (h .long ∙ sym (length-reduction (lowBit b))) in
-      byte-or (getD b 14 0) (bitXor y (y % 2 * 0x87)) (xor8 y (y % 2 * 0x87) (h .bytes 15) (omega arith))
-      ∙ sym (getD-next (lowBit b) 14 (added b) (omega (arith, length-added b (h .long)))
-      ∙ ap₂ (λ (u v : ℕ). bitXor (u % 2 * 128) (v / 2)) (kept 14 (lit< tt)) e)

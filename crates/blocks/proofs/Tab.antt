@@ -107,10 +107,3 @@ unfolding filled
 fill-all n f i l h e =
     let z : i ≡ n = omega arith in
     e ∙ ap (built (tab n f) (zeros n)) z ∙ built-all n (tab n f) (zeros n) (length-tab n f) (length-replicate {A = ℕ} n 0)
-
--- the stores of an array's last elements, after a loop that stops short
-pub fill-last : {r : List ℕ} {v : ℕ} (n : ℕ) (f : ℕ → ℕ) (i : ℕ) → i ≤ n → n ≤ i → r ≡ filled (suc n) f i → v ≡ f n → set r n v ≡ tab (suc n) f
-fill-last {r} {v} n f i l h e g =
-    let z : i ≡ n = omega arith in
-    let k : n + 1 ≡ suc n = omega arith in
-    fill-all (suc n) f (n + 1) (omega arith) (omega arith) (fill-more (suc n) f n (omega arith) (e ∙ ap (filled (suc n) f) z) g)

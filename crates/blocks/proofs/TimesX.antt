@@ -1,13 +1,12 @@
--- Multiply by x and the jump, on blocks: lengths and bytes, both go through exclusive or, jumps add; and how the code does it.
+-- Multiply by x and the jump, on blocks: lengths and bytes, both go through exclusive or, jumps add; and each byte of the product.
 use mathlib.Core.Path.{_≡_, refl, sym, ap, ap₂, _∙_}
 use mathlib.Core.List.{List, [], _∷_, _++_}
 use Prim.Native.Nat.{ℕ, zero, suc, _+_, _*_, _/_, _%_, _<_}
 use native.Mathlib.Nat.{suc-inj, mod-lt, lt-of-lt-of-le, le-of-eq, zero-add, suc-add}
-use native.Mathlib.Numerals.{add-one}
 use native.Mathlib.Omega.{arith}
-use lib.Bits.{bitXor, bitAnd, bitOr, xor-mod, xor-shr, xor-shifted, or-shifted, and-mask, xor-zero-r}
+use lib.Bits.{bitXor, xor-mod, xor-shr, xor-shifted, xor-zero-r}
 use lib.Dec.{lit<}
-use lib.ListN.{length, getD, getD-replicate, List·getD-append, List·getD-eq-default}
+use lib.ListN.{length, getD, List·getD-eq-default}
 use Rattle.blocks.specs.Bytes.{Bytes, Block, xorBytes, zeros}
 use Rattle.blocks.specs.Gf128.{carry, shiftLeft, reduction, timesX, jump, one}
 use Rattle.blocks.proofs.Test.{bytes-by}
@@ -111,7 +110,7 @@ unfolding jump
 jump-add zero m b = ap (λ (z : ℕ). jump z b) (zero-add m)
 jump-add (suc n) m b = ap (λ (z : ℕ). jump z b) (suc-add n m) ∙ ap timesX (jump-add n m b)
 
--- ---- as the code does it: a byte's seven low bits, and the top bit of the next byte
+-- ---- each byte: its seven low bits, and the top bit of the next byte
 
 pub carry-at : (b : List ℕ) → Bytes b → carry b ≡ getD b 0 0 / 128
 unfolding carry
@@ -121,11 +120,6 @@ carry-at (x ∷ b) h = omega (arith, h 0)
 -- a byte's shift, as a sum
 pub low-sum : (x t : ℕ) → t < 2 → bitXor (x * 2 % 256) t ≡ x % 128 * 2 + t
 low-sum x t h = let e : x * 2 % 256 ≡ x % 128 * 2 = omega arith in ap (λ (z : ℕ). bitXor z t) e ∙ xor-shifted (x % 128) 1 t h
-
-pub carry-or : (x t : ℕ) → t < 2 → bitOr (bitAnd x 0x7f * 2 % 256) t ≡ bitXor (x * 2 % 256) t
-carry-or x t h =
-    let e : x % 128 * 2 % 256 ≡ x % 128 * 2 = omega arith in
-    ap (λ (z : ℕ). bitOr (z * 2 % 256) t) (and-mask x 7) ∙ ap (λ (z : ℕ). bitOr z t) e ∙ or-shifted (x % 128) 1 t h ∙ sym (low-sum x t h)
 
 getD-shift : (b : List ℕ) (i : ℕ) → Bytes b → getD (shiftLeft b) i 0 ≡ bitXor (getD b i 0 * 2 % 256) (getD b (suc i) 0 / 128)
 unfolding shiftLeft
@@ -140,17 +134,7 @@ getD-timesX b i h =
     getD-xor (shiftLeft b) (reduction (carry b)) i (length-shift b ∙ h .long ∙ sym (length-reduction (carry b)))
     ∙ ap₂ (λ (x t : ℕ). bitXor x (getD (reduction t) i 0)) (getD-shift b i (h .bytes)) (carry-at b (h .bytes))
 
--- a byte but the last
-pub timesX-low : (b : List ℕ) (i : ℕ) → Block b → i < 15 → bitOr (bitAnd (getD b i 0) 0x7f * 2 % 256) (getD b (i + 1) 0 / 128) ≡ getD (timesX b) i 0
-unfolding reduction
-timesX-low b i h l =
-    let t = getD b (suc i) 0 / 128 in
-    let k : t < 2 = omega (arith, h .bytes (suc i)) in
-    let z : getD (zeros 15 ++ (getD b 0 0 / 128 * 0x87 ∷ [])) i 0 ≡ 0 = List·getD-append (zeros 15) (getD b 0 0 / 128 * 0x87 ∷ []) 0 i l ∙ getD-replicate 15 i 0 0 l in
-    ap (λ (j : ℕ). bitOr (bitAnd (getD b i 0) 0x7f * 2 % 256) (getD b j 0 / 128)) (add-one i) ∙ carry-or (getD b i 0) t k
-    ∙ sym (getD-timesX b i h ∙ ap (bitXor (bitXor (getD b i 0 * 2 % 256) t)) z ∙ xor-zero-r (bitXor (getD b i 0 * 2 % 256) t))
-
--- the last, with 87 where a one fell out
+-- the last byte, with 87 where a one fell out
 pub timesX-last : (b : List ℕ) → Block b → bitXor (getD b 15 0 * 2 % 256) (getD b 0 0 / 128 * 0x87) ≡ getD (timesX b) 15 0
 unfolding reduction
 timesX-last b h =

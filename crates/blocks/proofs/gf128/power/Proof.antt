@@ -1,5 +1,4 @@
 -- The power by the bits passed: with `left` bits to come, q is the power n / 2^left, of x or of 1/x.
-use borrow.Author.Needs.{needs}
 use mathlib.Core.Path.{_≡_, sym, ap, _∙_}
 use Prim.Native.Nat.{ℕ, _≤_, _<_, _/_, _^_}
 use native.Mathlib.Omega.{arith}
