@@ -16,7 +16,7 @@ use Rattle.blocks.specs.Gf128.{carry, shiftLeft, reduction, timesX, jump
 use Rattle.blocks.proofs.XorBytes.{length-xor}
 use Rattle.blocks.proofs.TimesX.{carry-lt, low-sum, length-shift, length-reduction, bytes-shift, bytes-reduction, block-jump}
 
-pub wide : (n : ℕ) → 2 ^ (suc n * 8) ≡ 2 ^ (n * 8) * 256
+wide : (n : ℕ) → 2 ^ (suc n * 8) ≡ 2 ^ (n * 8) * 256
 wide n = ap (λ (z : ℕ). 2 ^ z) (suc-mul n 8) ∙ pow-add 2 (n * 8) 8
 
 pub num-lt : (a : List ℕ) → Bytes a → num a < 2 ^ (length a * 8)
