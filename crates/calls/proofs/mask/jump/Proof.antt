@@ -13,6 +13,7 @@ use mir.ValLaws.{toZ-ofZ}
 use Rattle.blocks.specs.Bytes.{zeros}
 use Rattle.blocks.specs.Gf128.{jumpBy}
 use Rattle.blocks.proofs.JumpBy.{length-jumpBy}
+use Rattle.blocks.specs.Words.{bytesOf}
 use Rattle.mode.specs.Table.{firstRow}
 use Rattle.mode.specs.Calls.{jumpRows, jumpMask}
 use Rattle.mode.proofs.Answers.{refuses, gives, refused-written, refused-output, given-written, given-output}
@@ -80,7 +81,7 @@ returns-2 c =
     let j = c .before .before .before .before .jump-by .ensures ∙ ap₂ jumpBy (read s) (c .before .before .before .before .before .load .ensures ∙ whole-16 (a .mask .now) (h .0)) in
     let d = gives (jumpRows (a .mask .now) (a .distance) room) (jumpBy (a .distance) (a .mask .now)) (q .jump-refusal .result) tt (at-room q) (c .before .before .before .before .before .before .if1 .left) in (
       given-written _ _ room _ 16 d l,
-      stored-front (c .before .before .before .before .before .before .before .before .before .before .clear .last .0) (c .before .before .store .last .0) (c .before .before .before .before .jump-by .result) room (h .1) (c .before .before .before .before .before .before .before .before .before .before .clear .ensures) (c .before .before .store .ensures)
+      stored-front (c .before .before .before .before .before .before .before .before .before .before .clear .last .0) (c .before .before .store .last .0) (bytesOf (c .before .before .before .before .jump-by .result)) room (h .1) (c .before .before .before .before .before .before .before .before .before .before .clear .ensures) (c .before .before .store .ensures)
           ∙ ap (λ (z : List ℕ). z ++ zeros (room - 16)) j ∙ given-output _ _ room _ 16 d l,
     )
 

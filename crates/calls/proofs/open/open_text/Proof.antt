@@ -8,6 +8,7 @@ use lib.ListN.{length}
 use lib.ListN.{take, drop}
 use lib.Seq.{length-take-le}
 use Rattle.blocks.specs.Bytes.{zeros}
+use Rattle.blocks.specs.Words.{bytesOf}
 use Rattle.mode.specs.Mode.{Pass, ciphertext, blocksOf, startMask, unbroken, tagFrom, unbrokenTag, ivPart, cipherPart}
 use Rattle.mode.specs.Aes.{aes}
 use Rattle.mode.specs.Calls.{plaintextOf}
@@ -99,16 +100,16 @@ returns c =
     let o = there (c .before .before .before .before .before .before .before .before .before .before .before) in
     let f : take size out ≡ cipherPart sealed = front-is (cipherPart sealed) out size (room - size) n o in
     let k = same-key (a .key .now) (take 16 sealed) _ _ (s .pre .0) (q .ensures) in
-    let p : opening (keyOf (q .result .keys)) (blocksOf (take size out)) (q .result .start) ≡ opening (a .key .now) (blocksOf (cipherPart sealed)) (startMask aes (a .key .now) (ivPart sealed)) =
+    let p : opening (keyOf (q .result .keys)) (blocksOf (take size out)) (bytesOf (q .result .start)) ≡ opening (a .key .now) (blocksOf (cipherPart sealed)) (startMask aes (a .key .now) (ivPart sealed)) =
     λ i. opening (k i) (blocksOf (f i)) (q .ensures .started i) in
     let h : size % 16 ≡ 0 = omega (arith, s .pre .1 .0 .least, s .pre .1 .0 .aligned) in
     record {
       written =
-          worked (cipherPart sealed) out size (room - size) n o (y .last .1 .1 .1 .0) ((opening (keyOf (q .result .keys)) (blocksOf (take size out)) (q .result .start)) .output) h (y .ensures .written)
+          worked (cipherPart sealed) out size (room - size) n o (y .last .1 .1 .1 .0) ((opening (keyOf (q .result .keys)) (blocksOf (take size out)) (bytesOf (q .result .start))) .output) h (y .ensures .written)
           ∙ ap (λ (z : Pass). z .output ++ zeros (room - size)) p;
       long =
           ap (λ (z : Pass). length (z .output)) (sym p)
-          ∙ worked-long (cipherPart sealed) out size (room - size) n o (y .last .1 .1 .1 .0) ((opening (keyOf (q .result .keys)) (blocksOf (take size out)) (q .result .start)) .output) h (y .ensures .written) (y .kept .1 .1 .1 .0);
+          ∙ worked-long (cipherPart sealed) out size (room - size) n o (y .last .1 .1 .1 .0) ((opening (keyOf (q .result .keys)) (blocksOf (take size out)) (bytesOf (q .result .start))) .output) h (y .ensures .written) (y .kept .1 .1 .1 .0);
       tagged =
           c .tag .ensures
           ∙ (λ i. tagFrom aes (k i) ((y .ensures .authenticated ∙ ap (λ (z : Pass). z .preauthenticator) p) i) ((y .ensures .masked ∙ ap (λ (z : Pass). z .mask) p) i));

@@ -30,14 +30,17 @@ returns c =
 prepare-requires : tie.Need-prepare-requires
 prepare-requires c κs = search needs
 
+to-bytes-requires : tie.Need-to-bytes-requires
+to-bytes-requires c κs = search needs
+
 equal-requires-2 : tie.Need-equal-requires-2
 equal-requires-2 c κs = search needs
 
 returns-2 : tie.Need-returns-2
 unfolding zeroMask
-returns-2 c = c .equal2 .ensures ∙ ap (λ (x : List ℕ). same x zeroBlock) (c .before .before .prepare .ensures .started)
+returns-2 c = c .equal2 .ensures ∙ ap (λ (x : List ℕ). same x zeroBlock) (c .before .to-bytes .ensures ∙ c .before .before .prepare .ensures .started)
 
 pub zero-mask-spec : {M : Type 1} → statement M
 zero-mask-spec =
     tie.close
-    (tie.spec load-requires equal-requires returns prepare-requires equal-requires-2 returns-2)
+    (tie.spec load-requires equal-requires returns prepare-requires to-bytes-requires equal-requires-2 returns-2)

@@ -4,6 +4,7 @@ use mathlib.Core.Path.{ap, ap₂, _∙_}
 use mathlib.Core.List.{List}
 use Prim.Native.Nat.{ℕ}
 use Rattle.blocks.specs.Gf128.{jump}
+use Rattle.blocks.specs.Words.{bytesOf}
 use Rattle.mode.specs.Mode.{tagFrom}
 use Rattle.mode.specs.Aes.{aes}
 use Rattle.mode.specs.Calls.{closingTag}
@@ -31,7 +32,7 @@ returns c =
     let a = s .args in
     let k = same-key (a .key .now) (a .iv .now) _ _ (s .pre .0) (q .prepare .ensures) in
     c .tag .ensures
-    ∙ ap₂ (λ (key mask : List ℕ). tagFrom aes key (a .run .preauthenticator) mask) k (c .before .before .before .jump .ensures ∙ ap (jump (a .run .count)) (q .prepare .ensures .started))
+    ∙ ap₂ (λ (key mask : List ℕ). tagFrom aes key (bytesOf (a .run .preauthenticator)) mask) k (c .before .before .before .jump .ensures ∙ ap (jump (a .run .count)) (q .prepare .ensures .started))
 
 pub closing-tag-spec : {M : Type 1} → statement M
 closing-tag-spec = tie.close (tie.spec prepare-requires jump-requires tag-requires returns)

@@ -5,6 +5,7 @@ use mathlib.Core.List.{List}
 use Prim.Native.Nat.{ℕ, _-_}
 use native.Mathlib.Omega.{arith}
 use Rattle.blocks.specs.Gf128.{jump}
+use Rattle.blocks.proofs.Bridge.{proper-by, words-of}
 use Rattle.mode.specs.Mode.{ciphertext, zeroBlock, blocksOf, pass}
 use Rattle.mode.specs.Aes.{aes}
 use Rattle.mode.specs.Calls.{passFrom, runRecord}
@@ -37,7 +38,10 @@ returns c =
     let k = same-key (a .key .now) (a .iv .now) _ _ (s .pre .0) (q .prepare .ensures) in
     let m = c .before .before .before .jump .ensures ∙ ap (jump (a .first)) (q .prepare .ensures .started) in
     let p = c .before .check-blocks .ensures .authenticated ∙ ap₂ (λ (key mask : List ℕ). (pass aes ciphertext key (blocksOf (a .bytes .now)) mask zeroBlock) .preauthenticator) k m in
-    λ i. record { first = a .first; count = sym (count-middle (a .bytes .now)) i; preauthenticator = p i }
+    let w = c .before .check-blocks .result .preauthenticator in
+    let k = c .before .check-blocks .ok .1 .1 .1 .0 in
+    let e = words-of w _ (proper-by w (search (needs, k)) (search (needs, k))) p in
+    λ i. record { first = a .first; count = sym (count-middle (a .bytes .now)) i; preauthenticator = e i }
 
 pub check-run-record-spec : {M : Type 1} → statement M
 check-run-record-spec =

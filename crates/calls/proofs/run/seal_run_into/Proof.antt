@@ -7,6 +7,8 @@ use native.Mathlib.Omega.{arith}
 use lib.ListN.{length}
 use Rattle.blocks.specs.Bytes.{zeros}
 use Rattle.blocks.specs.Gf128.{jump}
+use Rattle.blocks.specs.Words.{bytesOf}
+use Rattle.blocks.proofs.Bridge.{proper-by, words-of}
 use Rattle.mode.specs.Mode.{Pass, plaintext, zeroBlock, blocksOf, pass}
 use Rattle.mode.specs.Aes.{aes}
 use Rattle.mode.specs.Calls.{blocksOfRun, passFrom, runRecord}
@@ -50,10 +52,12 @@ returns c =
     let l = blocks-laidOut (a .last) (a .bytes .now) in
     let k = same-key (a .key .now) (a .iv .now) _ _ (s .pre .0) (q .ensures) in
     let m = c .before .before .before .before .before .before .jump .ensures ∙ ap (jump (a .first)) (q .ensures .started) in
-    let p : pass aes plaintext (keyOf (q .result .keys)) (blocksOf (laidOut (a .last) (a .bytes .now))) (c .before .before .before .before .before .before .jump .result) zeroBlock ≡ passFrom aes plaintext (a .key .now) (a .iv .now) (a .first) (blocksOfRun (kindOf (a .last)) (a .bytes .now)) =
+    let p : pass aes plaintext (keyOf (q .result .keys)) (blocksOf (laidOut (a .last) (a .bytes .now))) (bytesOf (c .before .before .before .before .before .before .jump .result)) zeroBlock ≡ passFrom aes plaintext (a .key .now) (a .iv .now) (a .first) (blocksOfRun (kindOf (a .last)) (a .bytes .now)) =
     λ i. pass aes plaintext (k i) (sym l i) (m i) zeroBlock in
     let n = ap (λ (z : ℕ). z / 16) (y .ensures) ∙ sym (count-laidOut (a .last) (a .bytes .now)) in
-    let r = x .ensures .authenticated ∙ ap (λ (z : Pass). z .preauthenticator) p in (
+    let w = x .result .preauthenticator in
+    let o = x .ok .1 .1 .1 .0 in
+    let r = words-of w _ (proper-by w (search (needs, o)) (search (needs, o))) (x .ensures .authenticated ∙ ap (λ (z : Pass). z .preauthenticator) p) in (
       (λ i. record { refusal = 0; length = y .ensures i; run = record { first = a .first; count = n i; preauthenticator = r i } }),
       x .ensures .written ∙ ap (λ (z : Pass). z .output ++ zeros (length (a .out .now) - laidOutLength (a .last) (length (a .bytes .now)))) p,
     )

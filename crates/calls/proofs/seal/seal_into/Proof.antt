@@ -9,6 +9,7 @@ use lib.ListN.{length}
 use lib.ListN.{take, drop, length-append}
 use lib.Seq.{take-at, drop-at}
 use Rattle.blocks.specs.Bytes.{zeros}
+use Rattle.blocks.specs.Words.{bytesOf}
 use Rattle.mode.specs.Mode.{Pass, plaintext, zeroBlock, blocksOf, padded, pass, unbroken, tagFrom, unbrokenTag, sealedRecord}
 use Rattle.mode.specs.Aes.{aes}
 use Rattle.mode.proofs.Aes.{aes-lawful}
@@ -48,7 +49,7 @@ output c = let a = c .before .before .before .before .before .before .before .be
 whole : (c : tie.After-seal-text)
     → let a = c .before .before .before .before .before .before .before .before .before .before .before .before .before .before .before .before .args in
     let q = c .before .before .before .before .before .before .before .before .before .before .prepare .result in
-    pass aes plaintext (keyOf (q .keys)) (blocksOf (laidOut true (a .message .now))) (q .start) zeroBlock ≡ unbroken aes plaintext (a .key .now) (a .iv .now) (blocksOf (padded (a .message .now)))
+    pass aes plaintext (keyOf (q .keys)) (blocksOf (laidOut true (a .message .now))) (bytesOf (q .start)) zeroBlock ≡ unbroken aes plaintext (a .key .now) (a .iv .now) (blocksOf (padded (a .message .now)))
 unfolding unbroken laidOut
 whole c =
     let a = c .before .before .before .before .before .before .before .before .before .before .before .before .before .before .before .before .args in

@@ -8,6 +8,7 @@ use native.Mathlib.Omega.{arith}
 use lib.ListN.{length}
 use lib.ListN.{take}
 use Rattle.blocks.specs.Bytes.{zeros}
+use Rattle.blocks.specs.Words.{bytesOf}
 use Rattle.mode.specs.Mode.{Pass, plaintext, zeroBlock, blocksOf, pass}
 use Rattle.mode.specs.Aes.{aes}
 use Rattle.runs.specs.Run.{keyOf}
@@ -55,11 +56,11 @@ returns c =
     let left = room - laidOutLength (a .last) (length (a .bytes .now)) in
     let n = length-laidOut (a .last) (a .bytes .now) ∙ sym (x .ensures) in
     let f : take (x .result) out ≡ text = front-is text out (x .result) left n (c .before .before .before .before .before .before .before .lay-out .ensures) in
-    let p : pass aes plaintext (keyOf (a .keys .now)) (blocksOf (take (x .result) out)) (a .mask) zeroBlock ≡ pass aes plaintext (keyOf (a .keys .now)) (blocksOf text) (a .mask) zeroBlock =
-    ap (λ (t : List ℕ). pass aes plaintext (keyOf (a .keys .now)) (blocksOf t) (a .mask) zeroBlock) f in
+    let p : pass aes plaintext (keyOf (a .keys .now)) (blocksOf (take (x .result) out)) (bytesOf (a .mask)) zeroBlock ≡ pass aes plaintext (keyOf (a .keys .now)) (blocksOf text) (bytesOf (a .mask)) zeroBlock =
+    ap (λ (t : List ℕ). pass aes plaintext (keyOf (a .keys .now)) (blocksOf t) (bytesOf (a .mask)) zeroBlock) f in
     record {
       written =
-          worked text out (x .result) left n (c .before .before .before .before .before .before .before .lay-out .ensures) (y .last .1 .1 .1 .0) ((pass aes plaintext (keyOf (a .keys .now)) (blocksOf (take (x .result) out)) (a .mask) zeroBlock) .output) (omega (arith, x .ensures, s .pre .1 .1 .1 .1)) (y .ensures .written)
+          worked text out (x .result) left n (c .before .before .before .before .before .before .before .lay-out .ensures) (y .last .1 .1 .1 .0) ((pass aes plaintext (keyOf (a .keys .now)) (blocksOf (take (x .result) out)) (bytesOf (a .mask)) zeroBlock) .output) (omega (arith, x .ensures, s .pre .1 .1 .1 .1)) (y .ensures .written)
           ∙ ap (λ (q : Pass). q .output ++ zeros left) p;
       masked = y .ensures .masked ∙ ap (λ (q : Pass). q .mask) p;
       authenticated = y .ensures .authenticated ∙ ap (λ (q : Pass). q .preauthenticator) p;
