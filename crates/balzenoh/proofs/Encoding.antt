@@ -6,6 +6,9 @@ use native.Mathlib.Omega.{arith}
 use lib.ListN.{length, getD, take, drop, length-drop}
 use lib.Seq.{take-all, drop-drop, drop-cons}
 use Rattle.blocks.specs.Bytes.{Bytes, zeros}
+use Rattle.blocks.specs.Words.{Proper, bytesOf, wordsOf}
+use Rattle.blocks.proofs.Chunks.{bytes-drop}
+use Rattle.blocks.proofs.Bridge.{block-bytesOf, bytes-words, words-bytes}
 use Rattle.mode.specs.declared.RunRecord.{RunRecord}
 use Rattle.balzenoh.specs.Encoding.{numberBytes, numberOf, encoded, decoded}
 
@@ -37,17 +40,18 @@ number-bytes a b c d ha hb hc hd =
 
 -- ---- records
 
-pub length-encoded : (r : RunRecord) → length (r .preauthenticator) ≡ 16 → length (encoded r) ≡ 24
+pub length-encoded : (r : RunRecord) → length (encoded r) ≡ 24
 unfolding encoded numberBytes
-length-encoded r e = omega (arith, e)
+length-encoded r = omega (arith, block-bytesOf (r .preauthenticator) .long)
 
 -- DECODE undoes encode
-pub decoded-encoded : (r : RunRecord) → r .first < 4294967296 → r .count < 4294967296 → length (r .preauthenticator) ≡ 16 → decoded (encoded r) ≡ r
+pub decoded-encoded : (r : RunRecord) → r .first < 4294967296 → r .count < 4294967296 → Proper (r .preauthenticator) → decoded (encoded r) ≡ r
 unfolding encoded decoded numberBytes
 decoded-encoded r hf hc hp =
     let ef = digits (r .first) hf in
     let ec = digits (r .count) hc in
-    let ep = take-all 16 (r .preauthenticator) (omega (arith, hp)) in
+    let p = bytesOf (r .preauthenticator) in
+    let ep = ap wordsOf (take-all 16 p (omega (arith, block-bytesOf (r .preauthenticator) .long))) ∙ words-bytes (r .preauthenticator) hp in
     λ i. record { first = ef i; count = ec i; preauthenticator = ep i }
 
 -- ENCODE undoes decode
@@ -56,19 +60,22 @@ unfolding encoded decoded
 encoded-decoded b e h =
     ap₂ (λ (x y : List ℕ). x ++ y)
     (ap₂ (λ (x y : List ℕ). x ++ y) (number-bytes (getD b 0 0) (getD b 1 0) (getD b 2 0) (getD b 3 0) (h 0) (h 1) (h 2) (h 3)) (number-bytes (getD b 4 0) (getD b 5 0) (getD b 6 0) (getD b 7 0) (h 4) (h 5) (h 6) (h 7)))
-    (take-all 16 (drop 8 b) (omega (arith, length-drop 8 b)))
+    (ap (λ (x : List ℕ). bytesOf (wordsOf x)) all ∙ bytes-words (drop 8 b) (record { long = length-drop 8 b ∙ omega (arith, e); bytes = bytes-drop 8 b h }))
     ∙ sym (byte 0 (omega arith) (byte 1 (omega arith) (byte 2 (omega arith) (byte 3 (omega arith) (byte 4 (omega arith) (byte 5 (omega arith) (byte 6 (omega arith) (byte 7 (omega arith) refl))))))))
   where
+    all : take 16 (drop 8 b) ≡ drop 8 b
+    all = take-all 16 (drop 8 b) (omega (arith, length-drop 8 b))
+
     byte : (i : ℕ) → i < length b → {rest : List ℕ} → drop (suc i) b ≡ rest → drop i b ≡ getD b i 0 ∷ rest
     byte i l t = drop-cons b i 0 l ∙ ap (λ (x : List ℕ). getD b i 0 ∷ x) t
 
 -- ---- as the code writes it: a block with the numbers, and the pre-authenticator over its end
 
 pub encoded-there : (r : RunRecord) (old between new front : List ℕ) → front ≡ numberBytes (r .first) ++ numberBytes (r .count) ++ zeros 8
-    → between ≡ take 0 old ++ front ++ drop (0 + 16) old → new ≡ take 8 between ++ r .preauthenticator ++ drop (8 + 16) between
+    → between ≡ take 0 old ++ front ++ drop (0 + 16) old → new ≡ take 8 between ++ bytesOf (r .preauthenticator) ++ drop (8 + 16) between
     → new ≡ encoded r ++ drop 24 old
 unfolding encoded numberBytes
 encoded-there r old between new front ef eb en =
     let e = eb ∙ ap (λ (x : List ℕ). x ++ drop 16 old) ef in
-    en ∙ ap (λ (x : List ℕ). take 8 x ++ r .preauthenticator ++ drop 24 x) e
-    ∙ ap (λ (x : List ℕ). numberBytes (r .first) ++ numberBytes (r .count) ++ r .preauthenticator ++ x) (drop-drop 8 16 old)
+    en ∙ ap (λ (x : List ℕ). take 8 x ++ bytesOf (r .preauthenticator) ++ drop 24 x) e
+    ∙ ap (λ (x : List ℕ). numberBytes (r .first) ++ numberBytes (r .count) ++ bytesOf (r .preauthenticator) ++ x) (drop-drop 8 16 old)

@@ -22,7 +22,7 @@ pub fn decode(bytes: &[u8]) -> RunRecord
 {
     let first = number(bytes[0], bytes[1], bytes[2], bytes[3]);
     let count = number(bytes[4], bytes[5], bytes[6], bytes[7]);
-    let preauthenticator = blocks::block::load(bytes, 8);
+    let preauthenticator = blocks::words::load(bytes, 8);
     RunRecord {
         first,
         count,
@@ -62,7 +62,7 @@ pub fn encode(run: RunRecord, out: &mut [u8])
     let front = numbers(run.first, run.count);
     blocks::block::store(out, 0, front);
     let preauthenticator = run.preauthenticator;
-    blocks::block::store(out, 8, preauthenticator);
+    blocks::words::store(out, 8, preauthenticator);
 }
 
 // A record that a call answers, written to a lent output.

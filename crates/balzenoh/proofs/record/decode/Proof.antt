@@ -1,5 +1,6 @@
 -- Field by field.
 use borrow.Author.Needs.{needs}
+use Rattle.blocks.proofs.Bridge.{proper-by, words-of}
 use Rattle.balzenoh.specs.Encoding.{decoded}
 use Rattle.balzenoh.proofs.record.decode.Statement.{statement}
 use Rattle.balzenoh.proofs.record.decode.Tie as tie
@@ -39,7 +40,10 @@ load-requires c κs = search needs
 
 returns : tie.Need-returns
 unfolding decoded
-returns c = λ i. record { first = c .before .before .before .before .before .before .number .ensures i; count = c .before .number2 .ensures i; preauthenticator = c .load .ensures i }
+returns c =
+    let w = c .load .result in
+    let p = words-of w _ (proper-by w (search needs) (search needs)) (c .load .ensures) in
+    λ i. record { first = c .before .before .before .before .before .before .number .ensures i; count = c .before .number2 .ensures i; preauthenticator = p i }
 
 pub decode-spec : {M : Type 1} → statement M
 decode-spec =

@@ -21,7 +21,7 @@ at-room c =
     c .refusal .ensures ∙ ap (λ (k : ℕ). firstRow (lentRows (a .answer .refusal) k 24)) (c .before .before .before .clear .kept .0)
 
 long : (c : tie.Start) → length (encoded (c .args .answer .run)) ≡ 24
-long c = length-encoded (c .args .answer .run) (search needs)
+long c = length-encoded (c .args .answer .run)
 
 clear-requires : tie.Need-clear-requires
 clear-requires c κs = search needs
