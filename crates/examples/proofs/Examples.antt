@@ -1,11 +1,13 @@
 -- The whole table by one computation, and the laws.
-use mathlib.Core.Path.{_≡_, refl, ap, _∙_}
+use mathlib.Core.Path.{_≡_, refl, sym, ap, _∙_}
 use Prim.Native.Nat.{_+_, _≤_}
 use native.Mathlib.Omega.{arith}
 use borrow.Author.Tests.{le-ltb, eq-eqb}
 use Rattle.blocks.specs.Bytes.{xorBytes, firstBlocks}
 use Rattle.blocks.specs.Field.{step, times, mul}
-use Rattle.blocks.specs.Gf128.{carry, shiftLeft, reduction, timesX, jump, lowBit, shiftRight, overX, jumpBy}
+use Rattle.blocks.specs.Gf128.{carry, shiftLeft, reduction, timesX, jump, lowBit, shiftRight, overX, jumpBy, num, lowBytes}
+use Rattle.blocks.specs.declared.words.Words.{Words}
+use Rattle.blocks.specs.Words.{bytesOf, wordsOf}
 use Rattle.fips197.specs.Gf256.{power, inverse}
 use Rattle.fips197.specs.Sbox.{affine, sbox}
 use Rattle.mode.specs.declared.RunRecord.{RunRecord}
@@ -13,11 +15,12 @@ use Rattle.mode.specs.Mode.{zeroBlock, blocksOf, padded, inWords}
 use Rattle.mode.specs.Table.{given, decide, limit, not16, beyond, anyBeyond, tooFar, apart}
 use Rattle.mode.specs.Calls.{blocksOfRun, outcomeBy, joined, joinTwo, jumpMask}
 use Rattle.mode.proofs.Blocks.{count-last}
+use Rattle.mode.proofs.InWords.{zero-words}
 use Rattle.mode.proofs.Records.{joined-empty}
 use Rattle.examples.specs.Examples.{result, AllAgree, EmptyNeighbour, PaddedCount}
 
 pub all-agree : AllAgree
-unfolding result jumpMask outcomeBy decide not16 tooFar jumpBy overX shiftRight lowBit jump timesX shiftLeft carry reduction xorBytes sbox affine inverse power mul times step blocksOfRun blocksOf firstBlocks padded joinTwo anyBeyond beyond apart joined
+unfolding result jumpMask outcomeBy decide not16 tooFar jumpBy overX shiftRight lowBit jump timesX shiftLeft carry reduction xorBytes sbox affine inverse power mul times step blocksOfRun blocksOf firstBlocks padded joinTwo anyBeyond beyond apart joined num lowBytes bytesOf wordsOf
 all-agree = refl
 
 -- neighbours within the limit are joined
@@ -29,7 +32,8 @@ join-neighbours l r h k e =
 pub empty-neighbour : EmptyNeighbour
 empty-neighbour r h k =
     let end = r .first + r .count in
-    join-neighbours r (record { first = end; count = 0; preauthenticator = zeroBlock }) k (omega arith) refl
+    ap (λ (w : Words). joinTwo inWords r (record { first = end; count = 0; preauthenticator = w })) (sym zero-words)
+    ∙ join-neighbours r (inWords .make end 0 zeroBlock) k (omega arith) refl
     ∙ ap (λ (q : RunRecord). given q) (joined-empty r end h)
 
 pub padded-count : PaddedCount

@@ -1,5 +1,5 @@
--- Document 01's bench cards (a) to (j), and the jump back of ticket P1, as rows of one table: what is asked of the formulas, and what they
--- should give.
+-- Document 01's bench cards (a) to (j), the jump back of ticket P1 and the words of ticket P12, as rows of one table: what is asked of the
+-- formulas, and what they should give.
 use mathlib.Core.Path.{_≡_}
 use mathlib.Core.List.{List, [], _∷_, _++_, map}
 use Prim.Native.Nat.{ℕ, _+_, _/_, _≤_}
@@ -7,20 +7,24 @@ use lib.IntN.{ℤ, pos, negsuc}
 use lib.ListN.{length}
 use Rattle.blocks.specs.Bytes.{zeros}
 use Rattle.blocks.specs.Gf128.{timesX}
+use Rattle.blocks.specs.declared.words.Words.{Words}
+use Rattle.blocks.specs.Words.{Proper, bytesOf, wordsOf}
 use Rattle.fips197.specs.Sbox.{sbox}
 use Rattle.mode.specs.declared.RunRecord.{RunRecord}
-use Rattle.mode.specs.Mode.{zeroBlock, inWords}
+use Rattle.mode.specs.Mode.{inWords}
 use Rattle.mode.specs.Table.{Answer, given, limit}
 use Rattle.mode.specs.Calls.{Outcome, last, blocksOfRun, joinTwo, jumpMask}
 
 -- What is asked: a mask jumped by a signed number of blocks; a block times the variable; a byte through the S-box; a message's blocks with its
--- padding; two records joined.
+-- padding; two records joined; a block's words; two words' bytes.
 pub data Question : Type 0 where
   jumps : List ℕ → ℤ → Question
   multiplies : List ℕ → Question
   substitutes : ℕ → Question
   pads : List ℕ → Question
   joins : RunRecord → RunRecord → Question
+  splits : List ℕ → Question
+  spells : Words → Question
 
 -- what is given
 pub data Result : Type 0 where
@@ -29,6 +33,7 @@ pub data Result : Type 0 where
   byte : ℕ → Result
   several : List (List ℕ) → Result
   answer : Answer RunRecord → Result
+  words : Words → Result
 
 -- what the formulas give; the jump is lent an output of 16 bytes
 unfoldable pub result : Question → Result
@@ -37,6 +42,8 @@ result (multiplies b) = block (timesX b)
 result (substitutes b) = byte (sbox b)
 result (pads message) = several (blocksOfRun last message)
 result (joins l r) = answer (joinTwo inWords l r)
+result (splits b) = words (wordsOf b)
+result (spells w) = block (bytesOf w)
 
 -- ---- the table
 
@@ -49,6 +56,10 @@ abbrev r1 : List ℕ
 r1 =
     0xfd ∷ 0xed ∷ 0x29 ∷ 0x92 ∷ 0x09 ∷ 0x13 ∷ 0xa3 ∷ 0xda ∷ 0x8c ∷ 0x9e ∷ 0xca ∷ 0x2f ∷ 0x0f ∷ 0xd4 ∷ 0x34 ∷ 0xaa ∷ []
 
+-- and its words
+abbrev r1-words : Words
+r1-words = record { high = 0xfded29920913a3da; low = 0x8c9eca2f0fd434aa }
+
 -- 15 bytes, and the same and one more
 abbrev bytes15 : List ℕ
 bytes15 = 0x00 ∷ 0x01 ∷ 0x02 ∷ 0x03 ∷ 0x04 ∷ 0x05 ∷ 0x06 ∷ 0x07 ∷ 0x08 ∷ 0x09 ∷ 0x0a ∷ 0x0b ∷ 0x0c ∷ 0x0d ∷ 0x0e ∷ []
@@ -58,10 +69,10 @@ bytes16 = bytes15 ++ (0x0f ∷ [])
 
 -- three blocks from block 2 on, and no block after them
 abbrev some-run : RunRecord
-some-run = record { first = 2; count = 3; preauthenticator = r1 }
+some-run = record { first = 2; count = 3; preauthenticator = r1-words }
 
 abbrev no-run : RunRecord
-no-run = record { first = 5; count = 0; preauthenticator = zeroBlock }
+no-run = record { first = 5; count = 0; preauthenticator = record { high = 0; low = 0 } }
 
 -- an answer of 16 bytes that fills the lent output
 abbrev filled : List ℕ → Result
@@ -86,6 +97,9 @@ table =
     ∷ (pads bytes16, several (bytes16 ∷ (0x80 ∷ zeros 15) ∷ []))
     -- (j)
     ∷ (joins some-run no-run, answer (given some-run))
+    -- P12: the first eight bytes are the upper word
+    ∷ (splits r1, words r1-words)
+    ∷ (spells r1-words, block r1)
     ∷ []
 
 -- THE EXAMPLES: what the formulas give to all of the table's questions is what they should give.
@@ -97,8 +111,8 @@ AllAgree = map (λ (row : Question × Result). result (row .0)) table ≡ map (�
 -- (j), of every record within the limit: joining it with an empty right neighbour whose pre-authenticator is zero gives the record
 abbrev pub EmptyNeighbour : Type 0
 EmptyNeighbour =
-    (r : RunRecord) → length (r .preauthenticator) ≡ 16 → r .first + r .count ≤ limit
-    → joinTwo inWords r (record { first = r .first + r .count; count = 0; preauthenticator = zeroBlock }) ≡ given r
+    (r : RunRecord) → Proper (r .preauthenticator) → r .first + r .count ≤ limit
+    → joinTwo inWords r (record { first = r .first + r .count; count = 0; preauthenticator = record { high = 0; low = 0 } }) ≡ given r
 
 -- (g), (h), (i), of every message: it pads to one block more than it fills
 abbrev pub PaddedCount : Type 0
