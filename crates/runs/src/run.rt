@@ -27,14 +27,14 @@ fn take_up(preauthenticator: Words, middle: [u8; 16]) -> Words
     blocks::words::xor(moved, added)
 }
 
-// The block of a slice at an offset, plus a mask.
+// The block of a slice at an offset, plus a mask. The engine takes bytes, so the mask is added in bytes.
 fn load_masked(text: &[u8], at: usize, mask: Words) -> [u8; 16]
     requires { ⌜ at + 16 ≤ length (now text) ⌝ }
     ensures { λ r. ⌜ r ≡ xorBytes (take 16 (drop at (now (text .entry)))) (bytesOf mask) ⌝ }
 {
-    let block = blocks::words::load(text, at);
-    let masked = blocks::words::xor(block, mask);
-    blocks::words::to_bytes(masked)
+    let block = blocks::block::load(text, at);
+    let added = blocks::words::to_bytes(mask);
+    blocks::block::xor(block, added)
 }
 
 // A block, plus a mask, into a slice at an offset.
@@ -42,9 +42,9 @@ fn store_masked(text: &mut [u8], at: usize, block: [u8; 16], mask: Words)
     requires { ⌜ at + 16 ≤ length (now text) ⌝ }
     ensures { λ _. ⌜ now (text .exit) ≡ take at (now (text .entry)) ++ xorBytes block (bytesOf mask) ++ drop (at + 16) (now (text .entry)) ⌝ }
 {
-    let words = blocks::words::from_bytes(block);
-    let masked = blocks::words::xor(words, mask);
-    blocks::words::store(text, at, masked);
+    let added = blocks::words::to_bytes(mask);
+    let masked = blocks::block::xor(block, added);
+    blocks::block::store(text, at, masked);
 }
 
 // Seals the blocks of a slice in place.

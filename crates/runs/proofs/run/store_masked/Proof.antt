@@ -5,12 +5,11 @@ use mathlib.Core.List.{List, _++_}
 use Prim.Native.Nat.{ℕ, _+_}
 use lib.ListN.{take, drop}
 use Rattle.blocks.specs.Bytes.{xorBytes}
-use Rattle.blocks.specs.Words.{bytesOf}
 use Rattle.runs.proofs.run.store_masked.Statement.{statement}
 use Rattle.runs.proofs.run.store_masked.Tie as tie
 
-from-bytes-requires : tie.Need-from-bytes-requires
-from-bytes-requires c κs = search needs
+to-bytes-requires : tie.Need-to-bytes-requires
+to-bytes-requires c κs = search needs
 
 xor-requires : tie.Need-xor-requires
 xor-requires c κs = search needs
@@ -27,8 +26,8 @@ returns c =
     let old = a .text .now in
     c .before .before .store .ensures
     ∙ ap (λ (b : List ℕ). take (a .at) old ++ b ++ drop (a .at + 16) old)
-    (c .before .before .before .before .xor .ensures ∙ ap (λ (b : List ℕ). xorBytes b (bytesOf (a .mask))) (c .before .before .before .before .before .from-bytes .ensures))
+    (c .before .before .before .before .xor .ensures ∙ ap (xorBytes (a .block)) (c .before .before .before .before .before .to-bytes .ensures))
 
 pub store-masked-spec : {M : Type 1} → statement M
 store-masked-spec =
-    tie.close (tie.spec from-bytes-requires xor-requires store-requires same-length returns)
+    tie.close (tie.spec to-bytes-requires xor-requires store-requires same-length returns)
