@@ -2,9 +2,6 @@
 // on, and is masked again; the pre-authenticator takes up the middletext, and the mask is multiplied by x.
 use blocks::words::Words;
 ghost use mathlib.Core.Path.{_≡_};
-ghost use mathlib.Core.List.{_++_};
-ghost use Prim.Native.Nat.{_+_, _≤_};
-ghost use lib.ListN.{length, take, drop};
 ghost use Rattle.blocks.specs.Bytes.{xorBytes};
 ghost use Rattle.blocks.specs.Gf128.{timesX};
 ghost use Rattle.blocks.specs.Words.{bytesOf};
@@ -27,26 +24,6 @@ fn take_up(preauthenticator: Words, middle: [u8; 16]) -> Words
     blocks::words::xor(moved, added)
 }
 
-// The block of a slice at an offset, plus a mask. The engine takes bytes, so the mask is added in bytes.
-fn load_masked(text: &[u8], at: usize, mask: Words) -> [u8; 16]
-    requires { ⌜ at + 16 ≤ length (now text) ⌝ }
-    ensures { λ r. ⌜ r ≡ xorBytes (take 16 (drop at (now (text .entry)))) (bytesOf mask) ⌝ }
-{
-    let block = blocks::block::load(text, at);
-    let added = blocks::words::to_bytes(mask);
-    blocks::block::xor(block, added)
-}
-
-// A block, plus a mask, into a slice at an offset.
-fn store_masked(text: &mut [u8], at: usize, block: [u8; 16], mask: Words)
-    requires { ⌜ at + 16 ≤ length (now text) ⌝ }
-    ensures { λ _. ⌜ now (text .exit) ≡ take at (now (text .entry)) ++ xorBytes block (bytesOf mask) ++ drop (at + 16) (now (text .entry)) ⌝ }
-{
-    let added = blocks::words::to_bytes(mask);
-    let masked = blocks::block::xor(block, added);
-    blocks::block::store(text, at, masked);
-}
-
 // Seals the blocks of a slice in place.
 pub fn seal_blocks(mask: Words, keys: &[u8; 176], sbox: &[u8; 256], text: &mut [u8]) -> Chain
     requires { ⌜ Expanded (now keys) ⌝ }
@@ -56,16 +33,19 @@ pub fn seal_blocks(mask: Words, keys: &[u8; 176], sbox: &[u8; 256], text: &mut [
     let n = text.len() / 16;
     let mut m = mask;
     let mut p = Words { high: 0, low: 0 };
+    let mut masks = [0u8; 32];
+    crate::masked::lay_out(&mut masks, 0, m);
     let mut i: usize = 0;
     while i < n {
+        let next_m = blocks::gf128::times_x(m);
+        crate::masked::lay_out(&mut masks, i + 1, next_m);
         let at = i * 16;
-        let masked = load_masked(text, at, m);
+        let masked = crate::masked::load(text, at, &masks, i);
         let middle = aes::forward::first_half(masked, keys, sbox);
         let whole = aes::forward::second_half(middle, keys, sbox);
-        store_masked(text, at, whole, m);
+        crate::masked::store(text, at, whole, &masks, i);
         let next_p = take_up(p, middle);
         p = next_p;
-        let next_m = blocks::gf128::times_x(m);
         m = next_m;
         i += 1;
     }
@@ -84,16 +64,19 @@ pub fn open_blocks(mask: Words, keys: &[u8; 176], inv_sbox: &[u8; 256], text: &m
     let n = text.len() / 16;
     let mut m = mask;
     let mut p = Words { high: 0, low: 0 };
+    let mut masks = [0u8; 32];
+    crate::masked::lay_out(&mut masks, 0, m);
     let mut i: usize = 0;
     while i < n {
+        let next_m = blocks::gf128::times_x(m);
+        crate::masked::lay_out(&mut masks, i + 1, next_m);
         let at = i * 16;
-        let masked = load_masked(text, at, m);
+        let masked = crate::masked::load(text, at, &masks, i);
         let middle = aes::backward::inv_second_half(masked, keys, inv_sbox);
         let whole = aes::backward::inv_first_half(middle, keys, inv_sbox);
-        store_masked(text, at, whole, m);
+        crate::masked::store(text, at, whole, &masks, i);
         let next_p = take_up(p, middle);
         p = next_p;
-        let next_m = blocks::gf128::times_x(m);
         m = next_m;
         i += 1;
     }
@@ -112,14 +95,17 @@ pub fn check_blocks(mask: Words, keys: &[u8; 176], inv_sbox: &[u8; 256], text: &
     let n = text.len() / 16;
     let mut m = mask;
     let mut p = Words { high: 0, low: 0 };
+    let mut masks = [0u8; 32];
+    crate::masked::lay_out(&mut masks, 0, m);
     let mut i: usize = 0;
     while i < n {
+        let next_m = blocks::gf128::times_x(m);
+        crate::masked::lay_out(&mut masks, i + 1, next_m);
         let at = i * 16;
-        let masked = load_masked(text, at, m);
+        let masked = crate::masked::load(text, at, &masks, i);
         let middle = aes::backward::inv_second_half(masked, keys, inv_sbox);
         let next_p = take_up(p, middle);
         p = next_p;
-        let next_m = blocks::gf128::times_x(m);
         m = next_m;
         i += 1;
     }
