@@ -2,13 +2,13 @@
 -- blocks.
 use mathlib.Core.Path.{_≡_, refl, sym, ap, ap₂, _∙_, subst}
 use mathlib.Core.List.{List, [], _∷_, _++_}
-use Prim.Native.Nat.{ℕ, zero, suc, _+_, _*_, _/_, _%_, _^_, _<_}
+use Prim.Native.Nat.{ℕ, zero, suc, _+_, _-_, _*_, _/_, _%_, _^_, _<_}
 use native.Mathlib.Nat.{suc-mul, mul-comm, mul-assoc, add-mul, add-comm, zero-add, zero-mul, div-add-mod', mod-lt, mod-eq-of-lt, suc-inj, mul-div-mul-right}
 use native.Mathlib.Omega.{arith}
 use lib.Arith.{digits-lt, digits-div, digits-mod}
 use lib.Bits.{bitXor, xor-block}
 use lib.Dec.{lit<}
-use lib.ListN.{length, length-append}
+use lib.ListN.{length, getD, length-append}
 use lib.Pow.{pow-add, mod-pow-add}
 use Rattle.blocks.specs.Bytes.{Bytes, Block, xorBytes, zeros}
 use Rattle.blocks.specs.Field.{step, steps}
@@ -159,3 +159,13 @@ pub num-jump : (n : ℕ) (b : List ℕ) → Block b → num (jump n b) ≡ steps
 unfolding jump steps
 num-jump zero b h = refl
 num-jump (suc n) b h = num-timesX (jump n b) (block-jump n b h) ∙ ap (step 127 0x87) (num-jump n b h)
+
+-- the i-th of a number's n low bytes, the highest first
+pub getD-lowBytes : (n v i : ℕ) → i < n → getD (lowBytes n v) i 0 ≡ v / 2 ^ ((n - suc i) * 8) % 256
+unfolding lowBytes
+getD-lowBytes zero v i h = absurd (omega arith)
+getD-lowBytes (suc n) v zero h = let e : n ≡ suc n - 1 = omega arith in ap (λ (k : ℕ). v / 2 ^ (k * 8) % 256) e
+getD-lowBytes (suc n) v (suc i) h =
+    let l : i < n = omega arith in
+    let e : n - suc i ≡ suc n - suc (suc i) = omega arith in
+    getD-lowBytes n v i l ∙ ap (λ (k : ℕ). v / 2 ^ (k * 8) % 256) e

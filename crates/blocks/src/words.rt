@@ -5,7 +5,7 @@ ghost use mathlib.Core.List.{[], _∷_, _++_};
 ghost use Prim.Native.Nat.{_+_, _≤_};
 ghost use lib.ListN.{length, take, drop};
 ghost use Rattle.blocks.specs.Bytes.{xorBytes, same};
-ghost use Rattle.blocks.specs.Gf128.{num};
+ghost use Rattle.blocks.specs.Gf128.{num, lowBytes};
 ghost use Rattle.blocks.specs.Words.{bytesOf};
 
 pub struct Words {
@@ -71,6 +71,18 @@ pub fn store(d: &mut [u8], at: usize, w: Words)
 {
     let b = to_bytes(w);
     crate::block::store(d, at, b);
+}
+
+// One word into a slice at an offset, most significant byte first.
+pub fn store_word(d: &mut [u8], at: usize, w: u64)
+    requires { ⌜ at + 8 ≤ length (now d) ⌝ }
+    ensures { λ _. ⌜ now (d .exit) ≡ take at (now (d .entry)) ++ lowBytes 8 w ++ drop (at + 8) (now (d .entry)) ⌝ }
+{
+    let mut shift: u32 = 64;
+    for i in 0..8 {
+        shift -= 8;
+        d[at + i] = ((w >> shift) % 256) as u8;
+    }
 }
 
 // The exclusive or.
