@@ -1,67 +1,111 @@
--- Two masks in 32 bytes: what one write leaves in either half.
-use mathlib.Core.Path.{_≡_, refl, ap, _∙_}
+-- Two masks in 32 bytes: what the write of a word leaves of them.
+use mathlib.Core.Path.{_≡_, refl, sym, ap, ap₂, _∙_}
 use mathlib.Core.List.{List, _++_, append-assoc}
-use Prim.Native.Nat.{ℕ, zero, suc, _+_, _*_, _%_, _≤_, _<_}
+use Prim.Native.Nat.{ℕ, zero, suc, _+_, _-_, _*_, _%_, _≤_, _<_}
 use native.Mathlib.Omega.{arith}
 use lib.ListN.{length, take, drop, length-append, length-drop}
-use lib.Seq.{take-at, drop-at, length-take-le}
-use Rattle.runs.specs.Masked.{maskAt, LaidOut}
+use lib.Seq.{take-at, drop-at, drop-drop, take-add, take-append-le, take-take, length-take-le}
+use Rattle.blocks.specs.Gf128.{lowBytes}
+use Rattle.blocks.specs.Words.{bytesOf}
+use Rattle.blocks.specs.declared.words.Words.{Words}
+use Rattle.blocks.proofs.Num.{length-lowBytes}
+use Rattle.runs.specs.Masked.{place, maskAt, OtherStays, UpperLaid, LowerLaid}
 
-module _ (old new mask : List ℕ) (long : length old ≡ 32) (mask-long : length mask ≡ 16) where
-  -- at the front, or behind the first half
-  module _ (k : ℕ) (fits : k + 16 ≤ 32) (is : new ≡ take k old ++ mask ++ drop (k + 16) old) where
-    front : length (take k old) ≡ k
-    front = length-take-le k old (omega arith)
+-- ---- eight bytes written over a list at an offset
 
-    front-mask : length (take k old ++ mask) ≡ k + 16
-    front-mask = length-append (take k old) mask ∙ omega (arith, front)
+module _ (old new word : List ℕ) (k : ℕ) (word-long : length word ≡ 8) (fits : k + 8 ≤ length old) (is : new ≡ take k old ++ word ++ drop (k + 8) old) where
+  front : length (take k old) ≡ k
+  front = length-take-le k old (omega arith)
 
-    written-long : length new ≡ 32
-    written-long =
-        ap length is ∙ length-append (take k old ++ mask) (drop (k + 16) old) ∙ omega (arith, front-mask, length-drop (k + 16) old)
+  front-word : length (take k old ++ word) ≡ k + 8
+  front-word = length-append (take k old) word ∙ omega (arith, front)
 
-    written-there : take 16 (drop k new) ≡ mask
-    written-there =
-        ap (λ (x : List ℕ). take 16 (drop k x)) (is ∙ append-assoc (take k old) mask (drop (k + 16) old))
-        ∙ ap (take 16) (drop-at (take k old) (mask ++ drop (k + 16) old) k front)
-        ∙ take-at mask (drop (k + 16) old) 16 mask-long
+  written-long : length new ≡ length old
+  written-long = ap length is ∙ length-append (take k old ++ word) (drop (k + 8) old) ∙ omega (arith, front-word, length-drop (k + 8) old)
 
-  kept-second : new ≡ take 0 old ++ mask ++ drop 16 old → take 16 (drop 16 new) ≡ take 16 (drop 16 old)
-  kept-second is = ap (λ (x : List ℕ). take 16 (drop 16 x)) is ∙ ap (take 16) (drop-at mask (drop 16 old) 16 mask-long)
+  written-there : take 8 (drop k new) ≡ word
+  written-there =
+      ap (λ (x : List ℕ). take 8 (drop k x)) (is ∙ append-assoc (take k old) word (drop (k + 8) old))
+      ∙ ap (take 8) (drop-at (take k old) (word ++ drop (k + 8) old) k front)
+      ∙ take-at word (drop (k + 8) old) 8 word-long
 
-  kept-first : new ≡ take 16 old ++ mask ++ drop 32 old → take 16 (drop 0 new) ≡ take 16 (drop 0 old)
-  kept-first is =
-      ap (take 16) (is ∙ append-assoc (take 16 old) mask (drop 32 old))
-      ∙ take-at (take 16 old) (mask ++ drop 32 old) 16 (length-take-le 16 old (omega arith))
+  -- what stands before it, and behind it
+  kept-before : (j : ℕ) → j ≤ k → take j new ≡ take j old
+  kept-before j h =
+      ap (take j) (is ∙ append-assoc (take k old) word (drop (k + 8) old))
+      ∙ take-append-le j (take k old) (word ++ drop (k + 8) old) (omega (arith, front)) ∙ take-take j k old h
 
-  other-half : (a b : ℕ) → a < 2 → b < 2 → (b ≡ a → ⊥) → new ≡ take (a * 16) old ++ mask ++ drop (a * 16 + 16) old
-      → take 16 (drop (b * 16) new) ≡ take 16 (drop (b * 16) old)
-  other-half zero zero ha hb h is = absurd (h refl)
-  other-half zero (suc zero) ha hb h is = kept-second is
-  other-half (suc zero) zero ha hb h is = kept-first is
-  other-half (suc zero) (suc zero) ha hb h is = absurd (h refl)
-  other-half (suc (suc a)) b ha hb h is = absurd (omega arith)
-  other-half zero (suc (suc b)) ha hb h is = absurd (omega arith)
-  other-half (suc zero) (suc (suc b)) ha hb h is = absurd (omega arith)
+  kept-behind : (j : ℕ) → k + 8 ≤ j → drop j new ≡ drop j old
+  kept-behind j h =
+      let e : k + 8 + (j - (k + 8)) ≡ j = omega arith in
+      ap (λ (n : ℕ). drop n new) (sym e) ∙ sym (drop-drop (j - (k + 8)) (k + 8) new)
+      ∙ ap (drop (j - (k + 8))) (ap (drop (k + 8)) is ∙ drop-at (take k old ++ word) (drop (k + 8) old) (k + 8) front-word)
+      ∙ drop-drop (j - (k + 8)) (k + 8) old ∙ ap (λ (n : ℕ). drop n old) e
 
-  -- the mask of block i was written: by whether i is even or odd
-  pub laid-out : (i : ℕ) → new ≡ take (i % 2 * 16) old ++ mask ++ drop (i % 2 * 16 + 16) old → LaidOut old new i mask
-  unfolding maskAt
-  laid-out i is =
+-- ---- in one half of 32 bytes
+
+module _ (old new : List ℕ) (i word : ℕ) (long : length old ≡ 32) where
+  -- a word in the half a leaves the half b
+  module _ (at : ℕ) (part : at ≤ 8) where
+    half-stays : (a b : ℕ) → a < 2 → b < 2 → (b ≡ a → ⊥) → new ≡ take (a * 16 + at) old ++ lowBytes 8 word ++ drop (a * 16 + at + 8) old
+        → take 16 (drop (b * 16) new) ≡ take 16 (drop (b * 16) old)
+    half-stays zero zero ha hb h is = absurd (h refl)
+    half-stays zero (suc zero) ha hb h is =
+        ap (take 16) (kept-behind old new (lowBytes 8 word) (0 * 16 + at) (length-lowBytes 8 word) (omega arith) is 16 (omega arith))
+    half-stays (suc zero) zero ha hb h is = kept-before old new (lowBytes 8 word) (1 * 16 + at) (length-lowBytes 8 word) (omega arith) is 16 (omega arith)
+    half-stays (suc zero) (suc zero) ha hb h is = absurd (h refl)
+    half-stays (suc (suc a)) b ha hb h is = absurd (omega arith)
+    half-stays zero (suc (suc b)) ha hb h is = absurd (omega arith)
+    half-stays (suc zero) (suc (suc b)) ha hb h is = absurd (omega arith)
+
+    other-stays : new ≡ take (place i + at) old ++ lowBytes 8 word ++ drop (place i + at + 8) old → OtherStays old new i
+    unfolding maskAt
+    other-stays is j h = half-stays (i % 2) (j % 2) (omega arith) (omega arith) h is
+
+  pub upper-laid : new ≡ take (place i) old ++ lowBytes 8 word ++ drop (place i + 8) old → UpperLaid old new i word
+  upper-laid is =
+      let e : place i ≡ place i + 0 = omega arith in
       record {
-        long = written-long (i % 2 * 16) (omega arith) is;
-        there = written-there (i % 2 * 16) (omega arith) is;
-        other = λ j h. other-half (i % 2) (j % 2) (omega arith) (omega arith) h is;
+        long = written-long old new (lowBytes 8 word) (place i) (length-lowBytes 8 word) (omega arith) is ∙ long;
+        there = written-there old new (lowBytes 8 word) (place i) (length-lowBytes 8 word) (omega arith) is;
+        other = other-stays 0 (omega arith) (is ∙ ap (λ (k : ℕ). take k old ++ lowBytes 8 word ++ drop (k + 8) old) e);
       }
 
--- what a loop has at block i: the mask of that block, laid out
+  pub lower-laid : new ≡ take (place i + 8) old ++ lowBytes 8 word ++ drop (place i + 8 + 8) old → LowerLaid old new i word
+  lower-laid is =
+      record {
+        long = written-long old new (lowBytes 8 word) (place i + 8) (length-lowBytes 8 word) (omega arith) is ∙ long;
+        upper =
+            sym (behind new (written-long old new (lowBytes 8 word) (place i + 8) (length-lowBytes 8 word) (omega arith) is ∙ long))
+            ∙ ap (drop (place i)) (kept-before old new (lowBytes 8 word) (place i + 8) (length-lowBytes 8 word) (omega arith) is (place i + 8) (omega arith))
+            ∙ behind old long;
+        there = written-there old new (lowBytes 8 word) (place i + 8) (length-lowBytes 8 word) (omega arith) is;
+        other = other-stays 8 (omega arith) is;
+      }
+    where
+      behind : (x : List ℕ) → length x ≡ 32 → drop (place i) (take (place i + 8) x) ≡ take 8 (drop (place i) x)
+      behind x e =
+          ap (drop (place i)) (take-add (place i) 8 x)
+          ∙ drop-at (take (place i) x) (take 8 (drop (place i) x)) (place i) (length-take-le (place i) x (omega arith))
+
+-- ---- what a loop has
+
+-- the mask of block i, laid out
 pub record Ready (masks : List ℕ) (i : ℕ) (mask : List ℕ) : Type 0 where
   pub long : length masks ≡ 32
   pub is : maskAt masks i ≡ mask
 
-pub ready : {old new mask : List ℕ} {i : ℕ} → LaidOut old new i mask → Ready new i mask
-ready l = record { long = l .long; is = l .there }
+-- both words laid out are the mask
+pub ready : {old between new : List ℕ} {i : ℕ} (w : Words) → UpperLaid old between i (w .high) → LowerLaid between new i (w .low) → Ready new i (bytesOf w)
+unfolding maskAt bytesOf
+ready {old} {between} {new} {i} w u l =
+    record {
+      long = l .long;
+      is =
+          take-add 8 8 (drop (place i) new)
+          ∙ ap₂ (λ (x y : List ℕ). x ++ y) (l .upper ∙ u .there) (ap (take 8) (drop-drop 8 (place i) new) ∙ l .there);
+    }
 
--- it is there still once the next one is laid out
-pub still : {old new mask next : List ℕ} {i : ℕ} → Ready old i mask → LaidOut old new (i + 1) next → maskAt new i ≡ mask
-still {old} {new} {mask} {next} {i} r l = l .other i (λ e. let h : i % 2 ≡ (i + 1) % 2 = e in absurd (omega arith)) ∙ r .is
+-- a mask is there still while the next one is laid out
+pub still : (old new mask : List ℕ) (i : ℕ) → maskAt old i ≡ mask → OtherStays old new (i + 1) → maskAt new i ≡ mask
+still old new mask i is other = other i (λ e. let h : i % 2 ≡ (i + 1) % 2 = e in absurd (omega arith)) ∙ is

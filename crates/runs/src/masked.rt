@@ -1,21 +1,28 @@
 // Blocks of a slice, with their masks added. The engine takes bytes, so a mask is added in bytes: two masks lie in 32 bytes, that of block i
 // in the first half or, where i is odd, in the second. A mask is laid out a block ahead, so that its two words have reached memory before
-// its sixteen bytes are read as one.
-use blocks::words::Words;
+// its sixteen bytes are read as one; and a word at a time, since two words that are written one after the other are compiled into sixteen
+// writes of a byte.
 ghost use mathlib.Core.Path.{_≡_};
 ghost use mathlib.Core.List.{_++_};
 ghost use Prim.Native.Nat.{_+_, _≤_};
 ghost use lib.ListN.{length, take, drop};
 ghost use Rattle.blocks.specs.Bytes.{xorBytes};
-ghost use Rattle.blocks.specs.Words.{bytesOf};
-ghost use Rattle.runs.specs.Masked.{maskAt, LaidOut};
+ghost use Rattle.runs.specs.Masked.{maskAt, UpperLaid, LowerLaid};
 
-// Lays out the mask of block i. That of the block before it stays.
-pub fn lay_out(masks: &mut [u8], i: usize, mask: Words)
+// Lays out the upper word of the mask of block i. The mask of the block before it stays.
+pub fn lay_upper(masks: &mut [u8], i: usize, word: u64)
     requires { ⌜ length (now masks) ≡ 32 ⌝ }
-    ensures { λ _. ⌜ LaidOut (now (masks .entry)) (now (masks .exit)) i (bytesOf mask) ⌝ }
+    ensures { λ _. ⌜ UpperLaid (now (masks .entry)) (now (masks .exit)) i word ⌝ }
 {
-    blocks::words::store(masks, i % 2 * 16, mask);
+    blocks::words::store_word(masks, i % 2 * 16, word);
+}
+
+// The same of its lower word.
+pub fn lay_lower(masks: &mut [u8], i: usize, word: u64)
+    requires { ⌜ length (now masks) ≡ 32 ⌝ }
+    ensures { λ _. ⌜ LowerLaid (now (masks .entry)) (now (masks .exit)) i word ⌝ }
+{
+    blocks::words::store_word(masks, i % 2 * 16 + 8, word);
 }
 
 // The block of a slice at an offset, plus the mask of block i.

@@ -33,20 +33,24 @@ pub fn seal_blocks(mask: Words, keys: &[u8; 176], sbox: &[u8; 256], text: &mut [
     let n = text.len() / 16;
     let mut m = mask;
     let mut p = Words { high: 0, low: 0 };
+    let mut next = blocks::gf128::times_x(m);
     let mut masks = [0u8; 32];
-    crate::masked::lay_out(&mut masks, 0, m);
+    crate::masked::lay_upper(&mut masks, 0, m.high);
+    crate::masked::lay_lower(&mut masks, 0, m.low);
     let mut i: usize = 0;
     while i < n {
-        let next_m = blocks::gf128::times_x(m);
-        crate::masked::lay_out(&mut masks, i + 1, next_m);
+        crate::masked::lay_upper(&mut masks, i + 1, next.high);
         let at = i * 16;
         let masked = crate::masked::load(text, at, &masks, i);
         let middle = aes::forward::first_half(masked, keys, sbox);
+        crate::masked::lay_lower(&mut masks, i + 1, next.low);
         let whole = aes::forward::second_half(middle, keys, sbox);
         crate::masked::store(text, at, whole, &masks, i);
         let next_p = take_up(p, middle);
         p = next_p;
-        m = next_m;
+        m = next;
+        let after = blocks::gf128::times_x(m);
+        next = after;
         i += 1;
     }
     Chain {
@@ -64,20 +68,24 @@ pub fn open_blocks(mask: Words, keys: &[u8; 176], inv_sbox: &[u8; 256], text: &m
     let n = text.len() / 16;
     let mut m = mask;
     let mut p = Words { high: 0, low: 0 };
+    let mut next = blocks::gf128::times_x(m);
     let mut masks = [0u8; 32];
-    crate::masked::lay_out(&mut masks, 0, m);
+    crate::masked::lay_upper(&mut masks, 0, m.high);
+    crate::masked::lay_lower(&mut masks, 0, m.low);
     let mut i: usize = 0;
     while i < n {
-        let next_m = blocks::gf128::times_x(m);
-        crate::masked::lay_out(&mut masks, i + 1, next_m);
+        crate::masked::lay_upper(&mut masks, i + 1, next.high);
         let at = i * 16;
         let masked = crate::masked::load(text, at, &masks, i);
         let middle = aes::backward::inv_second_half(masked, keys, inv_sbox);
+        crate::masked::lay_lower(&mut masks, i + 1, next.low);
         let whole = aes::backward::inv_first_half(middle, keys, inv_sbox);
         crate::masked::store(text, at, whole, &masks, i);
         let next_p = take_up(p, middle);
         p = next_p;
-        m = next_m;
+        m = next;
+        let after = blocks::gf128::times_x(m);
+        next = after;
         i += 1;
     }
     Chain {
@@ -95,18 +103,22 @@ pub fn check_blocks(mask: Words, keys: &[u8; 176], inv_sbox: &[u8; 256], text: &
     let n = text.len() / 16;
     let mut m = mask;
     let mut p = Words { high: 0, low: 0 };
+    let mut next = blocks::gf128::times_x(m);
     let mut masks = [0u8; 32];
-    crate::masked::lay_out(&mut masks, 0, m);
+    crate::masked::lay_upper(&mut masks, 0, m.high);
+    crate::masked::lay_lower(&mut masks, 0, m.low);
     let mut i: usize = 0;
     while i < n {
-        let next_m = blocks::gf128::times_x(m);
-        crate::masked::lay_out(&mut masks, i + 1, next_m);
+        crate::masked::lay_upper(&mut masks, i + 1, next.high);
         let at = i * 16;
         let masked = crate::masked::load(text, at, &masks, i);
         let middle = aes::backward::inv_second_half(masked, keys, inv_sbox);
+        crate::masked::lay_lower(&mut masks, i + 1, next.low);
         let next_p = take_up(p, middle);
         p = next_p;
-        m = next_m;
+        m = next;
+        let after = blocks::gf128::times_x(m);
+        next = after;
         i += 1;
     }
     Chain {

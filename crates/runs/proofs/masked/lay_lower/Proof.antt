@@ -1,0 +1,26 @@
+-- One write, into one of the two halves.
+use borrow.Author.Needs.{needs}
+use Rattle.runs.proofs.Masks.{lower-laid}
+use Rattle.runs.proofs.masked.lay_lower.Statement.{statement}
+use Rattle.runs.proofs.masked.lay_lower.Tie as tie
+
+mul-store-word : tie.Need-mul-store-word
+mul-store-word c = search needs
+
+add-store-word : tie.Need-add-store-word
+add-store-word c = search needs
+
+store-word-requires : tie.Need-store-word-requires
+store-word-requires c κs = search needs
+
+same-length : tie.Need-same-length
+same-length c = search needs
+
+returns : tie.Need-returns
+returns c =
+    let s = c .before .before .before .before .before in
+    let a = s .args in
+    lower-laid (a .masks .now) (c .before .before .store-word .last .0) (a .i) (a .word) (s .pre) (c .before .before .store-word .ensures)
+
+pub lay-lower-spec : {M : Type 1} → statement M
+lay-lower-spec = tie.close (tie.spec mul-store-word add-store-word store-word-requires same-length returns)
