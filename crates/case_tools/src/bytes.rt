@@ -1,5 +1,6 @@
 // What a case compares.
 ghost use Prim.Native.Nat.{_≤_};
+use blocks::words::Words;
 use mode::RecordAnswer;
 use mode::RunAnswer;
 use mode::RunRecord;
@@ -75,10 +76,25 @@ pub fn answered(w: Written, refusal: u8, answer: &[u8], out: &[u8]) -> bool {
     written(w, refusal, answer.len(), out) && starts_with(out, answer)
 }
 
+// ---- run records
+
+// A record whose pre-authenticator is given as bytes.
+pub fn record(first: u32, count: u32, preauthenticator: [u8; 16]) -> RunRecord {
+    RunRecord {
+        first,
+        count,
+        preauthenticator: blocks::words::from_bytes(preauthenticator),
+    }
+}
+
+pub fn same_words(a: Words, b: Words) -> bool {
+    a.high == b.high && a.low == b.low
+}
+
 pub fn same_record(a: RunRecord, b: RunRecord) -> bool {
     let left = a.preauthenticator;
     let right = b.preauthenticator;
-    a.first == b.first && a.count == b.count && blocks::block::equal(left, right)
+    a.first == b.first && a.count == b.count && same_words(left, right)
 }
 
 // A record as it stands beside a refusal.

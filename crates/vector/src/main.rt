@@ -1,5 +1,7 @@
 // The vector program of document 01. It reads 48 bytes, a key, an IV and one block, and prints the start mask, the middletext, the
 // ciphertext block and the tag. For any other length of input, or where a call is refused, it prints nothing.
+use blocks::words::Words;
+use blocks::words::to_bytes;
 
 // The digit of the low four bits, in upper case.
 fn digit(x: u8) -> u8 {
@@ -25,7 +27,7 @@ fn print_line(label: &[u8], block: [u8; 16]) {
     io::write_all(1, b"\n");
 }
 
-fn start_mask(key: [u8; 16], iv: [u8; 16]) -> [u8; 16] {
+fn start_mask(key: [u8; 16], iv: [u8; 16]) -> Words {
     let sbox = &aes::sbox::SBOX;
     let keys = aes::key::expand(key);
     runs::mask::start_mask(iv, &keys, sbox)
@@ -45,8 +47,8 @@ fn show(key: [u8; 16], iv: [u8; 16], block: [u8; 16]) {
     }
     let middletext = run.preauthenticator;
     let tag = closed.tag;
-    print_line(b"R1", start_mask(key, iv));
-    print_line(b"T1", middletext);
+    print_line(b"R1", to_bytes(start_mask(key, iv)));
+    print_line(b"T1", to_bytes(middletext));
     print_line(b"C1", out);
     print_line(b"AUTH", tag);
 }
