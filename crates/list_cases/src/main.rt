@@ -1,7 +1,8 @@
-// Lists of run records, joined one by one as the join of a lent list does it: lists that join, and the table's rows for a list. Each line
-// says how many cases of a group agreed.
+// Lists of run records, joined one by one as the join of a lent list does it: lists that join, and the table's rows for a list; and masks
+// and pre-authenticators in words. Each line says how many cases of a group agreed.
 use case_tools::bytes::gives_record;
 use case_tools::bytes::one_if;
+use case_tools::bytes::record;
 use case_tools::bytes::refuses;
 use case_tools::hex::block;
 use case_tools::report;
@@ -9,13 +10,7 @@ use mode::KeptAnswer;
 use mode::RunRecord;
 ghost use Prim.Native.Nat.{_≤_};
 
-fn record(first: u32, count: u32, preauthenticator: [u8; 16]) -> RunRecord {
-    RunRecord {
-        first,
-        count,
-        preauthenticator,
-    }
-}
+mod words; // words.rt: two words for sixteen bytes
 
 // A record whose pre-authenticator is one byte sixteen times.
 fn run(first: u32, count: u32, byte: u8) -> RunRecord {
@@ -229,4 +224,8 @@ fn main() {
         5,
     );
     report(b"powers for a list that is refused", powers_refused(), 5);
+    report(b"bytes and words", words::forms(), 4);
+    report(b"masks in words", words::masks(), 4);
+    report(b"jumps of 1 in words", words::jumps_of_one(), 5);
+    report(b"records in words", words::records(), 4);
 }

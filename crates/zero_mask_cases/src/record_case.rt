@@ -3,15 +3,12 @@ ghost use Prim.Native.Nat.{_≤_};
 use crate::pair;
 use case_tools::bytes::flip;
 use case_tools::bytes::one_if;
+use case_tools::bytes::record;
 use case_tools::hex::block;
 use mode::RunRecord;
 
 fn made(first: u32, count: u32) -> RunRecord {
-    RunRecord {
-        first,
-        count,
-        preauthenticator: block(b"5BD1E995C6EF3720A54FF53A1F83D9AB"),
-    }
+    record(first, count, block(b"5BD1E995C6EF3720A54FF53A1F83D9AB"))
 }
 
 pub fn close_refused(key: usize, iv: usize, first: u32, count: u32, refusal: u8) -> usize
