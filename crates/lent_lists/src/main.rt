@@ -3,6 +3,7 @@
 use case_tools::bytes::blank;
 use case_tools::bytes::gives_record;
 use case_tools::bytes::one_if;
+use case_tools::bytes::record;
 use case_tools::hex::block;
 use mode::RecordAnswer;
 use mode::RunRecord;
@@ -22,11 +23,7 @@ fn join(records: [RunRecord; 3], n: usize) -> RecordAnswer
 
 // A record whose pre-authenticator has one byte 16 times.
 fn run(first: u32, count: u32, byte: u8) -> RunRecord {
-    RunRecord {
-        first,
-        count,
-        preauthenticator: [byte; 16],
-    }
+    record(first, count, [byte; 16])
 }
 
 fn gives(records: [RunRecord; 3], n: usize, expected: RunRecord) -> bool
@@ -69,11 +66,7 @@ fn joined() -> usize {
 
 // A record of blocks from 0 on.
 fn from_start(count: u32, preauthenticator: [u8; 16]) -> RunRecord {
-    RunRecord {
-        first: 0,
-        count,
-        preauthenticator,
-    }
+    record(0, count, preauthenticator)
 }
 
 // A power of x that is kept: right records of one count, of two, of one count behind another, and behind one of no block. The values are

@@ -5,6 +5,7 @@ use case_tools::bytes::flip;
 use case_tools::bytes::gives_record;
 use case_tools::bytes::gives_tag;
 use case_tools::bytes::one_if;
+use case_tools::bytes::record;
 use case_tools::bytes::refuses;
 use case_tools::hex::block;
 use case_tools::paper;
@@ -12,20 +13,12 @@ use mode::RunRecord;
 
 // A record made by hand.
 fn made(first: u32, count: u32) -> RunRecord {
-    RunRecord {
-        first,
-        count,
-        preauthenticator: block(b"5BD1E995C6EF3720A54FF53A1F83D9AB"),
-    }
+    record(first, count, block(b"5BD1E995C6EF3720A54FF53A1F83D9AB"))
 }
 
 // One that stands on the right of it.
 fn made_right(first: u32, count: u32) -> RunRecord {
-    RunRecord {
-        first,
-        count,
-        preauthenticator: block(b"243F6A8885A308D313198A2E03707344"),
-    }
+    record(first, count, block(b"243F6A8885A308D313198A2E03707344"))
 }
 
 // A key, an IV or a tag in front of zeros, to be cut to any length up to 32.
@@ -61,11 +54,7 @@ pub fn joined(first: u32, count: u32, right_first: u32, right_count: u32) -> usi
     requires { ⌜ count + «right_count» ≤ 4000 ⌝ }
     ensures { λ r. ⌜ r ≤ 1 ⌝ }
 {
-    let all = RunRecord {
-        first,
-        count: count + right_count,
-        preauthenticator: reference::joined(right_count),
-    };
+    let all = record(first, count + right_count, reference::joined(right_count));
     join_gives(
         made(first, count),
         made_right(right_first, right_count),
@@ -76,16 +65,8 @@ pub fn joined(first: u32, count: u32, right_first: u32, right_count: u32) -> usi
 // An empty neighbour whose pre-authenticator is zero changes nothing, on the right or on the left.
 pub fn empty_neighbours() -> usize {
     let run = made(2, 3);
-    let right = RunRecord {
-        first: 5,
-        count: 0,
-        preauthenticator: [0u8; 16],
-    };
-    let left = RunRecord {
-        first: 2,
-        count: 0,
-        preauthenticator: [0u8; 16],
-    };
+    let right = record(5, 0, [0u8; 16]);
+    let left = record(2, 0, [0u8; 16]);
     join_gives(run, right, run) + join_gives(left, run, run)
 }
 
