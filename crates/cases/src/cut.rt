@@ -1,6 +1,7 @@
 // Blocks cut into runs at random places, in a random order, and their records joined two at a time in a random order.
 ghost use Prim.Native.Nat.{_<_, _≤_};
 use case_tools::bytes::NO_ANSWER;
+use case_tools::bytes::record;
 use case_tools::random::Random;
 use mode::RecordAnswer;
 use mode::RunRecord;
@@ -145,11 +146,7 @@ struct Records {
 }
 
 fn no_record() -> RunRecord {
-    RunRecord {
-        first: 0,
-        count: 0,
-        preauthenticator: [0u8; 16],
-    }
+    record(0, 0, [0u8; 16])
 }
 
 // Seals or checks a run.

@@ -7,6 +7,7 @@ use case_tools::bytes::gives_record;
 use case_tools::bytes::gives_tag;
 use case_tools::bytes::of_run;
 use case_tools::bytes::one_if;
+use case_tools::bytes::record;
 use case_tools::bytes::same_record;
 use case_tools::bytes::written;
 use case_tools::hex::block;
@@ -52,14 +53,6 @@ fn tag_is(iv: [u8; 16], run: RunRecord, tag: [u8; 16]) -> usize
     let closed = calls::record::close(&key, &iv, run);
     let tested = calls::record::test(&key, &iv, run, &tag);
     one_if(gives_tag(closed, tag)) + one_if(tested == 0)
-}
-
-fn record(first: u32, count: u32, preauthenticator: [u8; 16]) -> RunRecord {
-    RunRecord {
-        first,
-        count,
-        preauthenticator,
-    }
 }
 
 // The first vector: m1, t1, A1, c1 and the tag.

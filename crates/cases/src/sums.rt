@@ -34,7 +34,7 @@ pub fn printed() -> usize {
     let first = first_link();
     let m2 = first.block;
     let run = first.run;
-    let a1 = run.preauthenticator;
+    let a1 = blocks::words::to_bytes(run.preauthenticator);
     let r1_printed = block(b"FDED29920913A3DA8C9ECA2F0FD434AA");
     let sum1 = block(b"FDFC0BA14D46C5AD04076094C309DA55");
     let sum1_encrypted = block(b"FEE2017432993F8D81E1251E9BD6125E");
