@@ -53,29 +53,6 @@ pub fn flip(bytes: &mut [u8], at: usize, bits: u8) {
     }
 }
 
-// ---- answers
-
-// What stands for a refusal where an answer is not as it should be. No call refuses with it.
-pub const NO_ANSWER: u8 = 255;
-
-// A run's refusal and length.
-pub fn of_run(a: RunAnswer) -> Written {
-    Written {
-        refusal: a.refusal,
-        length: a.length,
-    }
-}
-
-// The refusal and the length are as they should be, and the lent output is zero beyond the answer.
-pub fn written(w: Written, refusal: u8, length: usize, out: &[u8]) -> bool {
-    w.refusal == refusal && w.length == length && zero_from(out, length)
-}
-
-// The same, and the answer is as it should be. Beside a refusal it is empty.
-pub fn answered(w: Written, refusal: u8, answer: &[u8], out: &[u8]) -> bool {
-    written(w, refusal, answer.len(), out) && starts_with(out, answer)
-}
-
 // ---- run records
 
 // A record whose pre-authenticator is given as bytes.
@@ -100,6 +77,29 @@ pub fn same_record(a: RunRecord, b: RunRecord) -> bool {
 // A record as it stands beside a refusal.
 pub fn blank(run: RunRecord) -> bool {
     same_record(run, mode::refused(0).run)
+}
+
+// ---- answers
+
+// What stands for a refusal where an answer is not as it should be. No call refuses with it.
+pub const NO_ANSWER: u8 = 255;
+
+// A run's refusal and length.
+pub fn of_run(a: RunAnswer) -> Written {
+    Written {
+        refusal: a.refusal,
+        length: a.length,
+    }
+}
+
+// The refusal and the length are as they should be, and the lent output is zero beyond the answer.
+pub fn written(w: Written, refusal: u8, length: usize, out: &[u8]) -> bool {
+    w.refusal == refusal && w.length == length && zero_from(out, length)
+}
+
+// The same, and the answer is as it should be. Beside a refusal it is empty.
+pub fn answered(w: Written, refusal: u8, answer: &[u8], out: &[u8]) -> bool {
+    written(w, refusal, answer.len(), out) && starts_with(out, answer)
 }
 
 // The refusal is as it should be, and no record stands beside it.

@@ -1,5 +1,5 @@
-// Two words for sixteen bytes (ticket P12), run against the proved library. The values are those that document 01 and the mode's paper
-// print, with the words as numbers.
+// Two words for sixteen bytes (ticket P12). The masks and pre-authenticators are those that document 01 and the mode's paper print, with
+// the words as numbers.
 use blocks::words::Words;
 use case_tools::bytes::one_if;
 use case_tools::bytes::same_words;
@@ -56,7 +56,7 @@ fn one_jumped(distance: i32, high: u64, low: u64) -> usize
     are(jumped, Words { high, low })
 }
 
-// 1 jumped to the top bit of the lower word, to the upper word, to its top bit, and beyond; and back.
+// 1 jumped to the top bit of the lower word, to the low bit of the upper one, to its top bit, and beyond; and back by 1.
 pub fn jumps_of_one() -> usize {
     one_jumped(63, 0, 0x8000000000000000)
         + one_jumped(64, 1, 0)
