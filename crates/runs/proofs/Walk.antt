@@ -1,6 +1,7 @@
 -- The loop of step 2, over any two functions on blocks: sealing, opening and checking are such walks. What is left to do, from where the
 -- loop stands, is what there was to do from the start.
 use mathlib.Core.Path.{_≡_, refl, sym, ap, ap₂, _∙_}
+use mathlib.Core.Bool.{Bool, true, false, cond}
 use mathlib.Core.List.{List, [], _∷_, _++_, append-assoc, append-nil}
 use Prim.Native.Nat.{ℕ, suc, _+_, _-_, _*_, _≤_, _<_}
 use native.Mathlib.Omega.{arith}
@@ -12,7 +13,7 @@ use Rattle.mode.specs.Mode.{Pass, plaintext, ciphertext, zeroBlock, middletext,
 use Rattle.mode.specs.Aes.{aes}
 use Rattle.mode.specs.Calls.{decrypted}
 use Rattle.fips197.specs.Aes128.{firstHalf, secondHalf, invFirstHalf, invSecondHalf}
-use Rattle.runs.specs.Run.{Ran, Checked, opening}
+use Rattle.runs.specs.Run.{Ran, opening}
 
 -- each block goes through f to the middletext, and through g on
 unfoldable pub walk : (List ℕ → List ℕ) → (List ℕ → List ℕ) → List (List ℕ) → List ℕ → List ℕ → Pass
@@ -115,45 +116,41 @@ module _ (f g : List ℕ → List ℕ) (start text : List ℕ) (n : ℕ) where
             authenticated = ap (λ (q : Pass). q .preauthenticator) left ∙ now .authenticated;
           }
 
-    pub chain-ends : n ≤ i → Checked (walk f g (firstBlocks n text) start zeroBlock) mask p
-    chain-ends h =
-        let e = no-more f g (n - i) (drop (i * 16) text) mask p (omega arith) in
-        record {
-          masked = sym (ap (λ (q : Pass). q .mask) e) ∙ now .masked;
-          authenticated = sym (ap (λ (q : Pass). q .preauthenticator) e) ∙ now .authenticated;
-        }
+    -- at the end the mask and the pre-authenticator are the whole walk's
+    pub mask-ends : n ≤ i → mask ≡ walk f g (firstBlocks n text) start zeroBlock .mask
+    mask-ends h = sym (ap (λ (q : Pass). q .mask) (no-more f g (n - i) (drop (i * 16) text) mask p (omega arith))) ∙ now .masked
 
--- ---- the slice, which held `old`, after i of n blocks
+    pub preauthenticator-ends : n ≤ i → p ≡ walk f g (firstBlocks n text) start zeroBlock .preauthenticator
+    preauthenticator-ends h = sym (ap (λ (q : Pass). q .preauthenticator) (no-more f g (n - i) (drop (i * 16) text) mask p (omega arith))) ∙ now .authenticated
 
-pub record Written (f g : List ℕ → List ℕ) (start old : List ℕ) (n i : ℕ) (new mask p : List ℕ) : Type 0 where
-  pub chain : Chained f g start old n i mask p
+-- ---- the output, which held `old`, after i of n blocks
+
+pub record Written (f g : List ℕ → List ℕ) (start text old : List ℕ) (n i : ℕ) (new mask p : List ℕ) : Type 0 where
+  pub chain : Chained f g start text n i mask p
   pub long : length new ≡ length old
   pub rest : drop (i * 16) new ≡ drop (i * 16) old
-  pub output : take (i * 16) new ++ walk f g (firstBlocks (n - i) (drop (i * 16) old)) mask p .output ≡ walk f g (firstBlocks n old) start zeroBlock .output
+  pub output : take (i * 16) new ++ walk f g (firstBlocks (n - i) (drop (i * 16) text)) mask p .output ≡ walk f g (firstBlocks n text) start zeroBlock .output
 
-module _ (f g : List ℕ → List ℕ) (start old : List ℕ) (n : ℕ) where
-  pub begins : Written f g start old n 0 old start zeroBlock
+module _ (f g : List ℕ → List ℕ) (start text old : List ℕ) (n : ℕ) where
+  pub begins : Written f g start text old n 0 old start zeroBlock
   begins =
       record {
-        chain = chain-begins f g start old n;
+        chain = chain-begins f g start text n;
         long = refl;
         rest = refl;
-        output = ap (λ (k : ℕ). walk f g (firstBlocks k old) start zeroBlock .output) (let e : n - 0 ≡ n = omega arith in e);
+        output = ap (λ (k : ℕ). walk f g (firstBlocks k text) start zeroBlock .output) (let e : n - 0 ≡ n = omega arith in e);
       }
 
-  module _ (fits : n * 16 ≤ length old) (i : ℕ) (new mask p : List ℕ) (now : Written f g start old n i new mask p) where
+  module _ (fits : n * 16 ≤ length old) (i : ℕ) (new mask p : List ℕ) (now : Written f g start text old n i new mask p) where
     pub turn : (x t u new′ p′ mask′ : List ℕ) → i < n → length (xorBytes u mask) ≡ 16
-        → x ≡ xorBytes (take 16 (drop (i * 16) new)) mask → t ≡ f x → u ≡ g t
+        → x ≡ xorBytes (take 16 (drop (i * 16) text)) mask → t ≡ f x → u ≡ g t
         → new′ ≡ take (i * 16) new ++ xorBytes u mask ++ drop (i * 16 + 16) new → p′ ≡ xorBytes (timesX p) t → mask′ ≡ timesX mask
-        → Written f g start old n (i + 1) new′ mask′ p′
+        → Written f g start text old n (i + 1) new′ mask′ p′
     turn x t u new′ p′ mask′ l ly ex et eu en ep er =
-        record { chain = chain-turn f g start old n i mask p (now .chain) l x t mask′ p′ ex′ et ep er; long = long′; rest = rest′; output = output′ }
+        record { chain = chain-turn f g start text n i mask p (now .chain) l x t mask′ p′ ex et ep er; long = long′; rest = rest′; output = output′ }
       where
         y : List ℕ
         y = xorBytes u mask
-
-        ex′ : x ≡ xorBytes (take 16 (drop (i * 16) old)) mask
-        ex′ = ex ∙ ap (λ (z : List ℕ). xorBytes (take 16 z) mask) (now .rest)
 
         next : (i + 1) * 16 ≡ i * 16 + 16
         next = omega arith
@@ -179,49 +176,69 @@ module _ (f g : List ℕ → List ℕ) (start old : List ℕ) (n : ℕ) where
             ap (take ((i + 1) * 16)) en ∙ take-at (take (i * 16) new ++ y) (drop (i * 16 + 16) new) ((i + 1) * 16) front′
             ∙ ap (λ (z : List ℕ). take (i * 16) new ++ xorBytes z mask) eu
 
-        output′ : take ((i + 1) * 16) new′ ++ walk f g (firstBlocks (n - (i + 1)) (drop ((i + 1) * 16) old)) mask′ p′ .output
-            ≡ walk f g (firstBlocks n old) start zeroBlock .output
+        output′ : take ((i + 1) * 16) new′ ++ walk f g (firstBlocks (n - (i + 1)) (drop ((i + 1) * 16) text)) mask′ p′ .output
+            ≡ walk f g (firstBlocks n text) start zeroBlock .output
         output′ =
-            ap (λ (z : List ℕ). z ++ walk f g (firstBlocks (n - (i + 1)) (drop ((i + 1) * 16) old)) mask′ p′ .output) out′
-            ∙ append-assoc (take (i * 16) new) (xorBytes (g t) mask) (walk f g (firstBlocks (n - (i + 1)) (drop ((i + 1) * 16) old)) mask′ p′ .output)
-            ∙ ap (λ (q : Pass). take (i * 16) new ++ q .output) (left f g start old n i mask p (now .chain) l x t mask′ p′ ex′ et ep er)
+            ap (λ (z : List ℕ). z ++ walk f g (firstBlocks (n - (i + 1)) (drop ((i + 1) * 16) text)) mask′ p′ .output) out′
+            ∙ append-assoc (take (i * 16) new) (xorBytes (g t) mask) (walk f g (firstBlocks (n - (i + 1)) (drop ((i + 1) * 16) text)) mask′ p′ .output)
+            ∙ ap (λ (q : Pass). take (i * 16) new ++ q .output) (left f g start text n i mask p (now .chain) l x t mask′ p′ ex et ep er)
             ∙ now .output
 
-    pub ends : n ≤ i → Ran (walk f g (firstBlocks n old) start zeroBlock) n old new mask p
+    pub ends : n ≤ i → Ran true (walk f g (firstBlocks n text) start zeroBlock) n old new mask p
     ends h =
         record {
           written =
               sym (take-append-drop (i * 16) new)
-              ∙ ap₂ (λ (x y : List ℕ). x ++ y) (sym (ap (λ (q : Pass). take (i * 16) new ++ q .output) (no-more f g (n - i) (drop (i * 16) old) mask p (omega arith)) ∙ append-nil (take (i * 16) new)) ∙ now .output)
+              ∙ ap₂ (λ (x y : List ℕ). x ++ y) (sym (ap (λ (q : Pass). take (i * 16) new ++ q .output) (no-more f g (n - i) (drop (i * 16) text) mask p (omega arith)) ∙ append-nil (take (i * 16) new)) ∙ now .output)
               (now .rest ∙ ap (λ (k : ℕ). drop (k * 16) old) all);
-          masked = chain-ends f g start old n i mask p (now .chain) h .masked;
-          authenticated = chain-ends f g start old n i mask p (now .chain) h .authenticated;
+          masked = mask-ends f g start text n i mask p (now .chain) h;
+          authenticated = preauthenticator-ends f g start text n i mask p (now .chain) h;
         }
       where
         all : i ≡ n
         all = omega (arith, now .chain .count)
 
--- ---- what the three runs leave
+-- ---- the same where nothing may be written
+
+abbrev pub Going : Bool → (List ℕ → List ℕ) → (List ℕ → List ℕ) → List ℕ → List ℕ → List ℕ → ℕ → ℕ → List ℕ → List ℕ → List ℕ → Type 0
+Going true f g start text old n i new mask p = Written f g start text old n i new mask p
+Going false f g start text old n i new mask p = Chained f g start text n i mask p × (new ≡ old)
+
+module _ (f g : List ℕ → List ℕ) (start text old : List ℕ) (n : ℕ) where
+  pub going-begins : (b : Bool) → Going b f g start text old n 0 old start zeroBlock
+  going-begins true = begins f g start text old n
+  going-begins false = (chain-begins f g start text n, refl)
+
+  pub going-long : (b : Bool) (i : ℕ) (new mask p : List ℕ) → Going b f g start text old n i new mask p → length new ≡ length old
+  going-long true i new mask p h = h .long
+  going-long false i new mask p h = ap length (h .1)
+
+  module _ (i : ℕ) (new mask p x t new′ p′ mask′ : List ℕ) (l : i < n) (long : length (xorBytes (g t) mask) ≡ 16)
+      (ex : x ≡ xorBytes (take 16 (drop (i * 16) text)) mask) (et : t ≡ f x) (ep : p′ ≡ xorBytes (timesX p) t) (er : mask′ ≡ timesX mask) where
+    pub going-turn : (b : Bool) → (b ≡ true → n * 16 ≤ length old) → Going b f g start text old n i new mask p
+        → new′ ≡ cond b (take (i * 16) new ++ xorBytes (g t) mask ++ drop (i * 16 + 16) new) new → Going b f g start text old n (i + 1) new′ mask′ p′
+    going-turn true fits now en = turn f g start text old n (fits refl) i new mask p now x t (g t) new′ p′ mask′ l long ex et refl en ep er
+    going-turn false fits now en = (chain-turn f g start text n i mask p (now .0) l x t mask′ p′ ex et ep er, en ∙ now .1)
+
+  pub going-ends : (b : Bool) → (b ≡ true → n * 16 ≤ length old) → (i : ℕ) (new mask p : List ℕ) → Going b f g start text old n i new mask p → n ≤ i
+      → Ran b (walk f g (firstBlocks n text) start zeroBlock) n old new mask p
+  going-ends true fits i new mask p now h = ends f g start text old n (fits refl) i new mask p now h
+  going-ends false fits i new mask p now h =
+      record { written = now .1; masked = mask-ends f g start text n i mask p (now .0) h; authenticated = preauthenticator-ends f g start text n i mask p (now .0) h }
+
+-- ---- what the runs leave
 
 module _ (key start : List ℕ) (bs : List (List ℕ)) where
-  pub ran-sealing : {n : ℕ} {old new mask p : List ℕ} → Ran (walk (firstHalf key) (secondHalf key) bs start zeroBlock) n old new mask p
-      → Ran (pass aes plaintext key bs start zeroBlock) n old new mask p
+  pub ran-sealing : {n : ℕ} {old new mask p : List ℕ} → Ran true (walk (firstHalf key) (secondHalf key) bs start zeroBlock) n old new mask p
+      → Ran true (pass aes plaintext key bs start zeroBlock) n old new mask p
   ran-sealing r = rw (seal-walk key bs start zeroBlock) at r
 
-  pub ran-opening : {n : ℕ} {old new mask p : List ℕ} → Ran (walk (invSecondHalf key) (invFirstHalf key) bs start zeroBlock) n old new mask p
-      → Ran (opening key bs start) n old new mask p
+  pub ran-opening : (b : Bool) {n : ℕ} {old new mask p : List ℕ} → Ran b (walk (invSecondHalf key) (invFirstHalf key) bs start zeroBlock) n old new mask p
+      → Ran b (opening key bs start) n old new mask p
   unfolding opening
-  ran-opening {n} {old} r =
+  ran-opening b {n} {old} r =
       record {
-        written = r .written ∙ ap (λ (x : List ℕ). x ++ drop (n * 16) old) (open-output key bs start zeroBlock);
+        written = r .written ∙ ap (λ (x : List ℕ). cond b (x ++ drop (n * 16) old) old) (open-output key bs start zeroBlock);
         masked = r .masked ∙ check-mask key (invFirstHalf key) bs start zeroBlock;
         authenticated = r .authenticated ∙ check-preauthenticator key (invFirstHalf key) bs start zeroBlock;
-      }
-
-  pub checked-run : {mask p : List ℕ} (g : List ℕ → List ℕ) → Checked (walk (invSecondHalf key) g bs start zeroBlock) mask p
-      → Checked (pass aes ciphertext key bs start zeroBlock) mask p
-  checked-run g r =
-      record {
-        masked = r .masked ∙ check-mask key g bs start zeroBlock;
-        authenticated = r .authenticated ∙ check-preauthenticator key g bs start zeroBlock;
       }

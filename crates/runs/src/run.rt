@@ -2,12 +2,15 @@
 // on, and is masked again; the pre-authenticator takes up the middletext, and the mask is multiplied by x.
 use blocks::words::Words;
 ghost use mathlib.Core.Path.{_≡_};
+ghost use Prim.Native.Nat.{_+_, _*_};
+ghost use lib.ListN.{length};
 ghost use Rattle.blocks.specs.Bytes.{xorBytes};
 ghost use Rattle.blocks.specs.Gf128.{timesX};
 ghost use Rattle.blocks.specs.Words.{bytesOf};
 ghost use Rattle.fips197.specs.Sbox.{sbox as sboxOf, invSbox};
 ghost use Rattle.aes.specs.Table.{Tabulates};
-ghost use Rattle.runs.specs.Run.{Expanded, SealedInPlace, OpenedInPlace, CheckedThrough};
+ghost use Rattle.runs.specs.Masked.{maskAt};
+ghost use Rattle.runs.specs.Run.{keyOf, Expanded, Room, openedBlock, SealedInPlace, OpenedInto};
 
 // The mask after a run's last block, and the pre-authenticator of the run alone.
 pub struct Chain {
@@ -59,46 +62,45 @@ pub fn seal_blocks(mask: Words, keys: &[u8; 176], sbox: &[u8; 256], text: &mut [
     }
 }
 
-// Opens the blocks of a slice in place.
-pub fn open_blocks(mask: Words, keys: &[u8; 176], inv_sbox: &[u8; 256], text: &mut [u8]) -> Chain
+// ---- opening
+
+// The plaintext of block i, from its middletext, into an output; nothing where `write` is not set.
+fn write_opened(
+    write: bool,
+    middle: [u8; 16],
+    keys: &[u8; 176],
+    inv_sbox: &[u8; 256],
+    masks: &[u8],
+    i: usize,
+    out: &mut [u8],
+)
     requires { ⌜ Expanded (now keys) ⌝ }
     requires { ⌜ Tabulates (now «inv_sbox») invSbox ⌝ }
-    ensures { λ c. ⌜ OpenedInPlace (now (keys .entry)) (bytesOf mask) (now (text .entry)) (now (text .exit)) (bytesOf (c .mask)) (bytesOf (c .preauthenticator)) ⌝ }
+    requires { ⌜ length (now masks) ≡ 32 ⌝ }
+    requires { ⌜ Room write ((i + 1) * 16) (length (now out)) ⌝ }
+    ensures { λ _. ⌜ now (out .exit) ≡ openedBlock write (keyOf (now (keys .entry))) middle (maskAt (now (masks .entry)) i) i (now (out .entry)) ⌝ }
 {
-    let n = text.len() / 16;
-    let mut m = mask;
-    let mut p = Words { high: 0, low: 0 };
-    let mut next = blocks::gf128::times_x(m);
-    let mut masks = [0u8; 32];
-    crate::masked::lay_upper(&mut masks, 0, m.high);
-    crate::masked::lay_lower(&mut masks, 0, m.low);
-    let mut i: usize = 0;
-    while i < n {
-        crate::masked::lay_upper(&mut masks, i + 1, next.high);
-        let at = i * 16;
-        let masked = crate::masked::load(text, at, &masks, i);
-        let middle = aes::backward::inv_second_half(masked, keys, inv_sbox);
-        crate::masked::lay_lower(&mut masks, i + 1, next.low);
-        let whole = aes::backward::inv_first_half(middle, keys, inv_sbox);
-        crate::masked::store(text, at, whole, &masks, i);
-        let next_p = take_up(p, middle);
-        p = next_p;
-        m = next;
-        let after = blocks::gf128::times_x(m);
-        next = after;
-        i += 1;
+    if !write {
+        return;
     }
-    Chain {
-        mask: m,
-        preauthenticator: p,
-    }
+    let whole = aes::backward::inv_first_half(middle, keys, inv_sbox);
+    crate::masked::store(out, i * 16, whole, masks, i);
 }
 
-// The same over ciphertext that is only read.
-pub fn check_blocks(mask: Words, keys: &[u8; 176], inv_sbox: &[u8; 256], text: &[u8]) -> Chain
+// Goes through the blocks of a ciphertext, and where `write` is set puts the plaintext in front of an output. Opening writes, a check does
+// not.
+pub fn open_blocks(
+    mask: Words,
+    keys: &[u8; 176],
+    inv_sbox: &[u8; 256],
+    text: &[u8],
+    write: bool,
+    out: &mut [u8],
+) -> Chain
     requires { ⌜ Expanded (now keys) ⌝ }
     requires { ⌜ Tabulates (now «inv_sbox») invSbox ⌝ }
-    ensures { λ c. ⌜ CheckedThrough (now (keys .entry)) (bytesOf mask) (now (text .entry)) (bytesOf (c .mask)) (bytesOf (c .preauthenticator)) ⌝ }
+    requires { ⌜ Room write (length (now text)) (length (now out)) ⌝ }
+    ensures { λ c. ⌜ OpenedInto write (now (keys .entry)) (bytesOf mask) (now (text .entry)) (now (out .entry)) (now (out .exit)) (bytesOf (c .mask)) (bytesOf (c .preauthenticator)) ⌝ }
 {
     let n = text.len() / 16;
     let mut m = mask;
@@ -110,10 +112,10 @@ pub fn check_blocks(mask: Words, keys: &[u8; 176], inv_sbox: &[u8; 256], text: &
     let mut i: usize = 0;
     while i < n {
         crate::masked::lay_upper(&mut masks, i + 1, next.high);
-        let at = i * 16;
-        let masked = crate::masked::load(text, at, &masks, i);
+        let masked = crate::masked::load(text, i * 16, &masks, i);
         let middle = aes::backward::inv_second_half(masked, keys, inv_sbox);
         crate::masked::lay_lower(&mut masks, i + 1, next.low);
+        write_opened(write, middle, keys, inv_sbox, &masks, i, out);
         let next_p = take_up(p, middle);
         p = next_p;
         m = next;

@@ -1,6 +1,6 @@
 -- What the loop has left to do, from where it stands, is what there was to do from the start. The mask of its block lies ready.
 use borrow.Author.Needs.{needs}
-use mathlib.Core.Path.{_≡_, ap, _∙_}
+use mathlib.Core.Path.{_≡_, ap, ap₂, _∙_}
 use mathlib.Core.List.{List, _++_}
 use Prim.Native.Nat.{ℕ, _+_, _≤_, _-_, _*_, _/_}
 use native.Mathlib.Omega.{arith}
@@ -20,7 +20,7 @@ use Rattle.runs.proofs.run.seal_blocks.Tie as tie
 
 abbrev Inv-loop : tie.InvT-loop
 Inv-loop keys sbox text₀ n m₀ p₀ next₀ masks₀ i₀ text m p next masks i =
-    Written (firstHalf (keyOf keys)) (secondHalf (keyOf keys)) (bytesOf m₀) text₀ n i text (bytesOf m) (bytesOf p) × Ready masks i (bytesOf m) × (bytesOf next ≡ timesX (bytesOf m))
+    Written (firstHalf (keyOf keys)) (secondHalf (keyOf keys)) (bytesOf m₀) text₀ text₀ n i text (bytesOf m) (bytesOf p) × Ready masks i (bytesOf m) × (bytesOf next ≡ timesX (bytesOf m))
 
 abbrev μ-loop : tie.MeasureT-loop
 μ-loop keys sbox text₀ n m₀ p₀ next₀ masks₀ i₀ text m p next masks i = n - i
@@ -48,7 +48,7 @@ lay-lower-requires c κs = search needs
 
 loop-holds : tie.Need-loop-holds Inv-loop μ-loop
 unfolding bytesOf lowBytes
-loop-holds c = (begins _ _ _ _ _, ready (c .before .before .before .before .before .before .before .before .args .mask) (c .before .before .before .before .lay-upper .ensures) (c .before .lay-lower .ensures), c .before .before .before .before .before .before .times-x .ensures)
+loop-holds c = (begins _ _ _ _ _ _, ready (c .before .before .before .before .before .before .before .before .args .mask) (c .before .before .before .before .lay-upper .ensures) (c .before .lay-lower .ensures), c .before .before .before .before .before .before .times-x .ensures)
 
 slice-aggregate-lay-upper-2 : tie.Need-slice-aggregate-lay-upper-2 Inv-loop μ-loop
 slice-aggregate-lay-upper-2 c = search needs
@@ -124,9 +124,9 @@ loop-again c =
     let last = still (upper .last .0) (lower .last .0) m i first (lower .ensures .other) in
     let old = l .loop .text in
     let at = i * 16 in (
-      turn (firstHalf (keyOf keys)) (secondHalf (keyOf keys)) (bytesOf (a .mask)) (a .text .now) (length (a .text .now) / 16) (fits s) i old m (bytesOf (l .loop .p)) (l .loop .inv .0)
+      turn (firstHalf (keyOf keys)) (secondHalf (keyOf keys)) (bytesOf (a .mask)) (a .text .now) (a .text .now) (length (a .text .now) / 16) (fits s) i old m (bytesOf (l .loop .p)) (l .loop .inv .0)
           _ _ _ _ _ _ (c .before .before .before .before .before .before .before .before .before .before .before .before .before .before .before .before .before .before .loop-test .taken) (xor-long (u .result) m (long-u (c .before .before .before .before .before .before .before)) (block-bytesOf (l .loop .m) .long))
-          (x .ensures ∙ ap (xorBytes (take 16 (drop at old))) first) (c .before .before .before .before .before .before .before .before .before .before .before .first-half .ensures ∙ first-is keys e (x .result)) (u .ensures ∙ second-is keys e (c .before .before .before .before .before .before .before .before .before .before .before .first-half .result))
+          (x .ensures ∙ ap₂ (λ (w z : List ℕ). xorBytes (take 16 w) z) (l .loop .inv .0 .rest) first) (c .before .before .before .before .before .before .before .before .before .before .before .first-half .ensures ∙ first-is keys e (x .result)) (u .ensures ∙ second-is keys e (c .before .before .before .before .before .before .before .before .before .before .before .first-half .result))
           (c .before .before .before .before .store .ensures ∙ ap (λ (z : List ℕ). take at old ++ xorBytes (u .result) z ++ drop (at + 16) old) last) (c .before .take-up .ensures) (l .loop .inv .2),
       ready (l .loop .next) (upper .ensures) (lower .ensures),
       c .times-x2 .ensures,
@@ -142,7 +142,7 @@ returns c =
     let a = s .args in
     let keys = a .keys .now in
     ran-sealing (keyOf keys) (bytesOf (a .mask)) (firstBlocks (length (a .text .now) / 16) (a .text .now))
-    (ends (firstHalf (keyOf keys)) (secondHalf (keyOf keys)) (bytesOf (a .mask)) (a .text .now) (length (a .text .now) / 16) (fits s) (l .loop .i) (l .loop .text) (bytesOf (l .loop .m)) (bytesOf (l .loop .p)) (l .loop .inv .0) (c .loop-test .left))
+    (ends (firstHalf (keyOf keys)) (secondHalf (keyOf keys)) (bytesOf (a .mask)) (a .text .now) (a .text .now) (length (a .text .now) / 16) (fits s) (l .loop .i) (l .loop .text) (bytesOf (l .loop .m)) (bytesOf (l .loop .p)) (l .loop .inv .0) (c .loop-test .left))
 
 pub seal-blocks-spec : {M : Type 1} → statement M
 seal-blocks-spec =
