@@ -98,12 +98,10 @@ fn open_text(key: &[u8], sealed: &[u8], out: &mut [u8]) -> [u8; 16]
     let sbox = &aes::sbox::SBOX;
     let inv_sbox = &aes::inv_sbox::INV_SBOX;
     let stop = sealed.len() - 16;
-    let size = sealed.len() - 32;
     let p = crate::prepare::prepare(key, &sealed[..16]);
     let keys = p.keys;
     let start = p.start;
-    crate::text::lay_out(&sealed[16..stop], false, out);
-    let chain = runs::run::open_blocks(start, &keys, inv_sbox, &mut out[..size]);
+    let chain = runs::run::open_blocks(start, &keys, inv_sbox, &sealed[16..stop], true, out);
     let mask = chain.mask;
     let preauthenticator = chain.preauthenticator;
     runs::mask::tag(preauthenticator, mask, &keys, sbox)

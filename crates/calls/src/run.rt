@@ -140,7 +140,8 @@ fn check_run_record(key: &[u8], iv: &[u8], first: u32, bytes: &[u8]) -> RunRecor
     let keys = p.keys;
     let start = p.start;
     let mask = blocks::gf128::jump(start, first);
-    let chain = runs::run::check_blocks(mask, &keys, inv_sbox, bytes);
+    let mut nothing = [0u8; 1];
+    let chain = runs::run::open_blocks(mask, &keys, inv_sbox, bytes, false, &mut nothing);
     let preauthenticator = chain.preauthenticator;
     RunRecord {
         first,

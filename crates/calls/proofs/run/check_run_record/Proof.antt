@@ -1,6 +1,7 @@
--- The run's record, from the walk over its blocks.
+-- The run's record, from the walk over its blocks, which writes nothing.
 use borrow.Author.Needs.{needs}
-use mathlib.Core.Path.{sym, ap, ap₂, _∙_}
+use mathlib.Core.Path.{_≡_, sym, ap, ap₂, _∙_}
+use mathlib.Core.Bool.{false, true}
 use mathlib.Core.List.{List}
 use Prim.Native.Nat.{ℕ, _-_}
 use native.Mathlib.Omega.{arith}
@@ -11,9 +12,13 @@ use Rattle.mode.specs.Aes.{aes}
 use Rattle.mode.specs.Calls.{passFrom, runRecord}
 use Rattle.mode.proofs.Blocks.{count-middle}
 use Rattle.aes.proofs.Lookup.{invSbox-table}
+use Rattle.runs.specs.Run.{opening}
 use Rattle.calls.proofs.Keys.{schedule, same-key}
 use Rattle.calls.proofs.run.check_run_record.Statement.{statement}
 use Rattle.calls.proofs.run.check_run_record.Tie as tie
+
+not-both : {A : Type 0} → false ≡ true → A
+not-both e = absurd (let z : _≡_ {A = ℕ} 0 1 = cc in omega arith)
 
 prepare-requires : tie.Need-prepare-requires
 prepare-requires c κs = search needs
@@ -21,28 +26,39 @@ prepare-requires c κs = search needs
 jump-requires : tie.Need-jump-requires
 jump-requires c κs = search needs
 
-check-blocks-requires : tie.Need-check-blocks-requires
-check-blocks-requires c κs =
-    let s = c .before .before .before .before .before .before .before .before .before in
-    (schedule (s .args .key .now) (s .args .iv .now) _ _ (s .pre .0) (c .before .before .before .before .prepare .ensures), invSbox-table)
+slice-aggregate-open-blocks : tie.Need-slice-aggregate-open-blocks
+slice-aggregate-open-blocks c = search needs
 
-cast-t16 : tie.Need-cast-t16
-cast-t16 c = omega (arith, c .before .before .before .before .before .before .before .before .before .before .before .pre .1 .1)
+open-blocks-requires : tie.Need-open-blocks-requires
+open-blocks-requires c κs =
+    let s = c .before .before .before .before .before .before .before .before .before .before in
+    (schedule (s .args .key .now) (s .args .iv .now) _ _ (s .pre .0) (c .before .before .before .before .before .prepare .ensures), (invSbox-table, λ e. not-both e))
+
+cast-t19 : tie.Need-cast-t19
+cast-t19 c = omega (arith, c .before .before .before .before .before .before .before .before .before .before .before .before .before .pre .1 .1)
 
 returns : tie.Need-returns
-unfolding runRecord passFrom blocksOf
+unfolding runRecord passFrom blocksOf opening
 returns c =
-    let q = c .before .before .before .before .before .before in
-    let s = c .before .before .before .before .before .before .before .before .before .before .before in
+    let q = c .before .before .before .before .before .before .before .before in
+    let s = c .before .before .before .before .before .before .before .before .before .before .before .before .before in
     let a = s .args in
     let k = same-key (a .key .now) (a .iv .now) _ _ (s .pre .0) (q .prepare .ensures) in
-    let m = c .before .before .before .jump .ensures ∙ ap (jump (a .first)) (q .prepare .ensures .started) in
-    let p = c .before .check-blocks .ensures .authenticated ∙ ap₂ (λ (key mask : List ℕ). (pass aes ciphertext key (blocksOf (a .bytes .now)) mask zeroBlock) .preauthenticator) k m in
-    let w = c .before .check-blocks .result .preauthenticator in
-    let k = c .before .check-blocks .ok .1 .1 .1 .0 in
-    let e = words-of w _ (proper-by w (search (needs, k)) (search (needs, k))) p in
+    let m = c .before .before .before .before .before .jump .ensures ∙ ap (jump (a .first)) (q .prepare .ensures .started) in
+    let y = c .before .before .open-blocks in
+    let p = y .ensures .authenticated ∙ ap₂ (λ (key mask : List ℕ). (pass aes ciphertext key (blocksOf (a .bytes .now)) mask zeroBlock) .preauthenticator) k m in
+    let w = y .result .preauthenticator in
+    let o = y .ok .1 .1 .1 .0 in
+    let e = words-of w _ (proper-by w (search (needs, o)) (search (needs, o))) p in
     λ i. record { first = a .first; count = sym (count-middle (a .bytes .now)) i; preauthenticator = e i }
 
 pub check-run-record-spec : {M : Type 1} → statement M
 check-run-record-spec =
-    tie.close (tie.spec prepare-requires jump-requires check-blocks-requires cast-t16 returns)
+    tie.close
+    (tie.spec
+    prepare-requires
+    jump-requires
+    slice-aggregate-open-blocks
+    open-blocks-requires
+    cast-t19
+    returns)
