@@ -59,9 +59,6 @@ module _ (text out : List ℕ) (size left : ℕ) (l : length text ≡ size) (e :
     pub worked : new ++ drop size out ≡ output ++ zeros left
     worked = ap₂ (λ (x y : List ℕ). x ++ y) all-new (ap (drop size) e ∙ drop-at text (zeros left) size l)
 
-    pub worked-long : length new ≡ length (take size out) → length output ≡ size
-    worked-long k = ap length (sym all-new) ∙ k ∙ ap length front-is ∙ l
-
 -- ---- an output from the n-th byte on
 
 pub back-is : (n : ℕ) (old : List ℕ) → take (length old - n) (drop n old) ≡ drop n old

@@ -1,9 +1,8 @@
 -- The run's record, from the walk over its blocks, which writes nothing.
 use borrow.Author.Needs.{needs}
-use mathlib.Core.Path.{_≡_, sym, ap, ap₂, _∙_}
-use mathlib.Core.Bool.{false, true}
+use mathlib.Core.Path.{sym, ap, ap₂, _∙_}
 use mathlib.Core.List.{List}
-use Prim.Native.Nat.{ℕ, _-_}
+use Prim.Native.Nat.{ℕ}
 use native.Mathlib.Omega.{arith}
 use Rattle.blocks.specs.Gf128.{jump}
 use Rattle.blocks.proofs.Bridge.{proper-by, words-of}
@@ -11,14 +10,12 @@ use Rattle.mode.specs.Mode.{ciphertext, zeroBlock, blocksOf, pass}
 use Rattle.mode.specs.Aes.{aes}
 use Rattle.mode.specs.Calls.{passFrom, runRecord}
 use Rattle.mode.proofs.Blocks.{count-middle}
+use Rattle.mode.proofs.Segments.{not-both}
 use Rattle.aes.proofs.Lookup.{invSbox-table}
 use Rattle.runs.specs.Run.{opening}
 use Rattle.calls.proofs.Keys.{schedule, same-key}
 use Rattle.calls.proofs.run.check_run_record.Statement.{statement}
 use Rattle.calls.proofs.run.check_run_record.Tie as tie
-
-not-both : {A : Type 0} → false ≡ true → A
-not-both e = absurd (let z : _≡_ {A = ℕ} 0 1 = cc in omega arith)
 
 prepare-requires : tie.Need-prepare-requires
 prepare-requires c κs = search needs
