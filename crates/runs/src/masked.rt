@@ -32,8 +32,8 @@ pub fn load(text: &[u8], at: usize, masks: &[u8], i: usize) -> [u8; 16]
     ensures { λ r. ⌜ r ≡ xorBytes (take 16 (drop at (now (text .entry)))) (maskAt (now (masks .entry)) i) ⌝ }
 {
     let block = blocks::block::load(text, at);
-    let mask = blocks::block::load(masks, i % 2 * 16);
-    blocks::block::xor(block, mask)
+    let added = blocks::block::load(masks, i % 2 * 16);
+    blocks::block::xor(block, added)
 }
 
 // A block, plus the mask of block i, into a slice at an offset.
