@@ -4,6 +4,7 @@ use Prim.Native.Nat.{ℕ, suc, _+_, _*_, _-_, _/_, _%_, _^_, _≤_, _<_}
 use native.Mathlib.Nat.{mul-add, mul-assoc}
 use native.Mathlib.Omega.{arith}
 use lib.Bits.{bitXor, xor-block, xor-lt, xor-zero-r}
+use lib.Count.{leadingZeros, leading-length}
 use mir.Syntax.{w64}
 use mir.Val.{Fits}
 use Rattle.blocks.specs.Field.{step, steps, times, mul}
@@ -50,30 +51,45 @@ bit-more n a r₀ r s b h g =
     g ∙ ap (λ (w : ℕ). bitXor (a % 2 * b) (step 127 0x87 w)) h ∙ ap (bitXor (a % 2 * b)) (step-linear 127 0x87 t u)
     ∙ sym (xor-assoc (a % 2 * b) (step 127 0x87 t) (step 127 0x87 u))
 
--- what r₀ has become after all bits of v but `left`
-abbrev pub After : ℕ → ℕ → ℕ → ℕ → ℕ → Type 0
-After v b r₀ left r = r ≡ bitXor (times 127 0x87 (64 - left) (v / 2 ^ left) b) (steps 127 0x87 (64 - left) r₀)
+-- what r₀ has become after all the `bits` low bits of v but `left`
+abbrev pub After : ℕ → ℕ → ℕ → ℕ → ℕ → ℕ → Type 0
+After bits v b r₀ left r = r ≡ bitXor (times 127 0x87 (bits - left) (v / 2 ^ left) b) (steps 127 0x87 (bits - left) r₀)
 
-pub after-none : (v b r₀ : ℕ) → After v b r₀ 64 r₀
+pub after-none : (bits v b r₀ : ℕ) → After bits v b r₀ bits r₀
 unfolding times steps
-after-none v b r₀ = refl
+after-none bits v b r₀ =
+    let z : 0 ≡ bits - bits = omega arith in
+    ap (λ (n : ℕ). bitXor (times 127 0x87 n (v / 2 ^ bits) b) (steps 127 0x87 n r₀)) z
 
-pub after-more : (v b r₀ left r s : ℕ) → 0 < left → left ≤ 64 → After v b r₀ left r → s ≡ bitXor (v / 2 ^ (left - 1) % 2 * b) (step 127 0x87 r)
-    → After v b r₀ (left - 1) s
-after-more v b r₀ left r s h l e f =
-    let n = 64 - left in
+pub after-more : (bits v b r₀ left r s : ℕ) → 0 < left → left ≤ bits → After bits v b r₀ left r
+    → s ≡ bitXor (v / 2 ^ (left - 1) % 2 * b) (step 127 0x87 r) → After bits v b r₀ (left - 1) s
+after-more bits v b r₀ left r s h l e f =
+    let n = bits - left in
     let a = v / 2 ^ (left - 1) in
-    let g : suc n ≡ 64 - (left - 1) = omega arith in
+    let g : suc n ≡ bits - (left - 1) = omega arith in
     bit-more n a r₀ r s b (e ∙ ap (λ (z : ℕ). bitXor (times 127 0x87 n z b) (steps 127 0x87 n r₀)) (sym (one-bit-less v left h))) f
     ∙ ap (λ (m : ℕ). bitXor (times 127 0x87 m a b) (steps 127 0x87 m r₀)) g
 
-pub after-all : (v b r₀ left r : ℕ) → left ≡ 0 → After v b r₀ left r → r ≡ bitXor (times 127 0x87 64 v b) (steps 127 0x87 64 r₀)
-after-all v b r₀ left r z e =
+pub after-all : (bits v b r₀ left r : ℕ) → left ≡ 0 → After bits v b r₀ left r → r ≡ bitXor (times 127 0x87 bits v b) (steps 127 0x87 bits r₀)
+after-all bits v b r₀ left r z e =
     let d : v / 1 ≡ v = omega arith in
-    e ∙ ap (λ (n : ℕ). bitXor (times 127 0x87 (64 - n) (v / 2 ^ n) b) (steps 127 0x87 (64 - n) r₀)) z
-    ∙ ap (λ (a : ℕ). bitXor (times 127 0x87 64 a b) (steps 127 0x87 64 r₀)) d
+    let n : bits - 0 ≡ bits = omega arith in
+    e ∙ ap (λ (i : ℕ). bitXor (times 127 0x87 (bits - i) (v / 2 ^ i) b) (steps 127 0x87 (bits - i) r₀)) z
+    ∙ ap₂ (λ (i a : ℕ). bitXor (times 127 0x87 i a b) (steps 127 0x87 i r₀)) n d
 
--- ---- two words
+-- ---- the zeros at the top
+
+nothing-above : (m v : ℕ) → v ≡ 0 * 2 ^ m + v
+nothing-above m v = omega arith
+
+-- n of them add nothing
+top-zeros : (m n v b : ℕ) → v < 2 ^ m → times 127 0x87 (n + m) v b ≡ times 127 0x87 m v b
+top-zeros m n v b h =
+    ap (λ (a : ℕ). times 127 0x87 (n + m) a b) (nothing-above m v)
+    ∙ times-more 127 0x87 m n 0 v b h
+    ∙ ap (λ (z : ℕ). bitXor (times 127 0x87 m v b) (steps 127 0x87 m z)) (at-zero (λ a. times 127 0x87 n a b) (times-left 127 0x87 n b))
+    ∙ ap (bitXor (times 127 0x87 m v b)) (at-zero (steps 127 0x87 m) (steps-linear 127 0x87 m))
+    ∙ xor-zero-r (times 127 0x87 m v b)
 
 abbrev zero-words : Words
 zero-words = record { high = 0; low = 0 }
@@ -82,17 +98,33 @@ num-zero : num (bytesOf zero-words) ≡ 0
 unfolding bytesOf num lowBytes
 num-zero = refl
 
--- a word of zero
-pub word-none : (v b : ℕ) → v ≡ 0 → num (bytesOf zero-words) ≡ times 127 0x87 64 v b
-word-none v b e = num-zero ∙ sym (ap (λ (a : ℕ). times 127 0x87 64 a b) e ∙ at-zero (λ a. times 127 0x87 64 a b) (times-left 127 0x87 64 b))
+-- a word without its leading zeros, from nothing
+pub word-first : (v b q : ℕ) → v < 2 ^ 64
+    → q ≡ bitXor (times 127 0x87 (64 - leadingZeros 64 v) v b) (steps 127 0x87 (64 - leadingZeros 64 v) (num (bytesOf zero-words)))
+    → q ≡ times 127 0x87 64 v b
+word-first v b q h e =
+    let t = leading-length 64 v h in
+    let m = t .0 in
+    let k : 64 - leadingZeros 64 v ≡ m = omega arith in
+    e ∙ ap (λ (i : ℕ). bitXor (times 127 0x87 i v b) (steps 127 0x87 i (num (bytesOf zero-words)))) k
+    ∙ ap (bitXor (times 127 0x87 m v b)) (ap (steps 127 0x87 m) num-zero ∙ at-zero (steps 127 0x87 m) (steps-linear 127 0x87 m))
+    ∙ xor-zero-r (times 127 0x87 m v b)
+    ∙ sym (top-zeros m (leadingZeros 64 v) v b (t .2))
+    ∙ ap (λ (i : ℕ). times 127 0x87 i v b) (t .1)
 
--- the upper word, from nothing
-pub word-first : (v b q : ℕ) → q ≡ bitXor (times 127 0x87 64 v b) (steps 127 0x87 64 (num (bytesOf zero-words))) → q ≡ times 127 0x87 64 v b
-word-first v b q e =
-    e ∙ ap (bitXor (times 127 0x87 64 v b)) (ap (steps 127 0x87 64) num-zero ∙ at-zero (steps 127 0x87 64) (steps-linear 127 0x87 64))
-    ∙ xor-zero-r (times 127 0x87 64 v b)
+-- ---- two words
 
--- and the lower one
+-- the lower one alone
+pub product-low : (a b q : Words) → Proper a → a .high ≡ 0 → num (bytesOf q) ≡ times 127 0x87 64 (a .low) (num (bytesOf b))
+    → bytesOf q ≡ product (bytesOf a) (bytesOf b)
+unfolding mul
+product-low a b q ha z e =
+    let n = num (bytesOf b) in
+    product-is (bytesOf a) (bytesOf b) (bytesOf q) (block-bytesOf b) (block-bytesOf q)
+    (e ∙ sym (top-zeros 64 64 (a .low) n (ha .low))
+    ∙ ap (λ (w : ℕ). times 127 0x87 128 w n) (sym (num-bytesOf a ha ∙ ap (λ (h : ℕ). h * 2 ^ 64 + a .low) z ∙ sym (nothing-above 64 (a .low)))))
+
+-- the upper one, and then the lower one
 pub product-words : (a b u q : Words) → Proper a → num (bytesOf u) ≡ times 127 0x87 64 (a .high) (num (bytesOf b))
     → num (bytesOf q) ≡ bitXor (times 127 0x87 64 (a .low) (num (bytesOf b))) (steps 127 0x87 64 (num (bytesOf u)))
     → bytesOf q ≡ product (bytesOf a) (bytesOf b)

@@ -2,7 +2,7 @@
 // the coefficient of x^127. Each contract is about the bytes of the words, by document 01's formulas over bytes.
 use crate::words::Words;
 ghost use mathlib.Core.Path.{_≡_};
-ghost use Prim.Native.Nat.{_*_, _/_, _^_, _<_};
+ghost use Prim.Native.Nat.{_*_, _/_, _^_, _≤_, _<_};
 ghost use lib.Bits.{bitXor};
 ghost use lib.IntN.{natAbs};
 ghost use Rattle.blocks.specs.Field.{step, steps, times};
@@ -46,12 +46,13 @@ fn take_bit(r: Words, bit: u64, b: Words) -> Words
     }
 }
 
-// x^64 r, and b times the word v added.
-fn take_word(r: Words, v: u64, b: Words) -> Words
-    ensures { λ q. ⌜ num (bytesOf q) ≡ bitXor (times 127 0x87 64 v (num (bytesOf b))) (steps 127 0x87 64 (num (bytesOf r))) ⌝ }
+// x^bits r, and b times the low bits of v added.
+fn take_bits(r: Words, v: u64, b: Words, bits: u32) -> Words
+    requires { ⌜ bits ≤ 64 ⌝ }
+    ensures { λ q. ⌜ num (bytesOf q) ≡ bitXor (times 127 0x87 bits v (num (bytesOf b))) (steps 127 0x87 bits (num (bytesOf r))) ⌝ }
 {
     let mut q = r;
-    let mut left: u32 = 64;
+    let mut left = bits;
     while left > 0 {
         left -= 1;
         let next = take_bit(q, (v >> left) % 2, b);
@@ -60,22 +61,24 @@ fn take_word(r: Words, v: u64, b: Words) -> Words
     q
 }
 
-// b times the word v. Low powers of x, by which short runs are joined and jumped over, have an upper word of zero: nothing is done for it.
+// b times the word v, from its highest one.
 fn times_word(v: u64, b: Words) -> Words
     ensures { λ q. ⌜ num (bytesOf q) ≡ times 127 0x87 64 v (num (bytesOf b)) ⌝ }
 {
     let zero = Words { high: 0, low: 0 };
-    if v == 0 {
-        return zero;
-    }
-    take_word(zero, v, b)
+    let bits = 64 - u64::leading_zeros(v);
+    take_bits(zero, v, b, bits)
 }
 
+// A low power of x, by which short runs are joined and jumped over, has an upper word of zero.
 pub fn multiply(a: Words, b: Words) -> Words
     ensures { λ r. ⌜ bytesOf r ≡ product (bytesOf a) (bytesOf b) ⌝ }
 {
+    if a.high == 0 {
+        return times_word(a.low, b);
+    }
     let upper = times_word(a.high, b);
-    take_word(upper, a.low, b)
+    take_bits(upper, a.low, b, 64)
 }
 
 // ---- squares: the bits moved apart, then reduced

@@ -1,21 +1,29 @@
--- The upper word, then the lower one.
+-- The lower word alone; or the upper word, then the lower one.
 use borrow.Author.Needs.{needs}
 use Rattle.blocks.proofs.Bridge.{proper-by}
-use Rattle.blocks.proofs.Horner.{product-words}
+use Rattle.blocks.proofs.Horner.{product-low, product-words}
 use Rattle.blocks.proofs.gf128.multiply.Statement.{statement}
 use Rattle.blocks.proofs.gf128.multiply.Tie as tie
 
 times-word-requires : tie.Need-times-word-requires
 times-word-requires c κs = search needs
 
-take-word-requires : tie.Need-take-word-requires
-take-word-requires c κs = search needs
-
 returns : tie.Need-returns
 returns c =
-    let a = c .before .before .args in
-    product-words (a .a) (a .b) (c .before .times-word .result) (c .take-word .result) (proper-by (a .a) (search needs) (search needs))
-    (c .before .times-word .ensures) (c .take-word .ensures)
+    let a = c .before .before .before .args in
+    product-low (a .a) (a .b) (c .times-word .result) (proper-by (a .a) (search needs) (search needs)) (c .before .if1 .taken) (c .times-word .ensures)
+
+times-word-requires-2 : tie.Need-times-word-requires-2
+times-word-requires-2 c κs = search needs
+
+take-bits-requires : tie.Need-take-bits-requires
+take-bits-requires c κs = search needs
+
+returns-2 : tie.Need-returns-2
+returns-2 c =
+    let a = c .before .before .before .before .args in
+    product-words (a .a) (a .b) (c .before .times-word2 .result) (c .take-bits .result) (proper-by (a .a) (search needs) (search needs))
+    (c .before .times-word2 .ensures) (c .take-bits .ensures)
 
 pub multiply-spec : {M : Type 1} → statement M
-multiply-spec = tie.close (tie.spec times-word-requires take-word-requires returns)
+multiply-spec = tie.close (tie.spec times-word-requires returns times-word-requires-2 take-bits-requires returns-2)

@@ -6,17 +6,17 @@ use mathlib.Core.Path.{_≡_}
 use Rattle.blocks.specs.Gf128.{num}
 use Rattle.blocks.specs.Words.{bytesOf}
 use Rattle.blocks.proofs.Horner.{After, after-none, after-more, after-all}
-use Rattle.blocks.proofs.gf128.take_word.Statement.{statement}
-use Rattle.blocks.proofs.gf128.take_word.Tie as tie
+use Rattle.blocks.proofs.gf128.take_bits.Statement.{statement}
+use Rattle.blocks.proofs.gf128.take_bits.Tie as tie
 
 abbrev Inv-loop : tie.InvT-loop
-Inv-loop v b q₀ left₀ q left = (left ≤ 64) × After v (num (bytesOf b)) (num (bytesOf q₀)) left (num (bytesOf q))
+Inv-loop v b bits q₀ left₀ q left = (left ≤ bits) × After bits v (num (bytesOf b)) (num (bytesOf q₀)) left (num (bytesOf q))
 
 abbrev μ-loop : tie.MeasureT-loop
-μ-loop v b q₀ left₀ q left = left
+μ-loop v b bits q₀ left₀ q left = left
 
 loop-holds : tie.Need-loop-holds Inv-loop μ-loop
-loop-holds c = (search needs, after-none (c .args .v) (num (bytesOf (c .args .b))) (num (bytesOf (c .args .r))))
+loop-holds c = (search needs, after-none (c .args .bits) (c .args .v) (num (bytesOf (c .args .b))) (num (bytesOf (c .args .r))))
 
 sub-left : tie.Need-sub-left Inv-loop μ-loop
 sub-left c = omega arith
@@ -38,7 +38,7 @@ loop-again c =
     let a = c .before .before .before .args in
     let l = c .before .before .loop in (
       omega arith,
-      after-more (a .v) (num (bytesOf (a .b))) (num (bytesOf (a .r))) (l .left) (num (bytesOf (l .q))) (num (bytesOf (c .take-bit .result)))
+      after-more (a .bits) (a .v) (num (bytesOf (a .b))) (num (bytesOf (a .r))) (l .left) (num (bytesOf (l .q))) (num (bytesOf (c .take-bit .result)))
           (omega arith) (l .inv .0) (l .inv .1) (c .take-bit .ensures),
     )
 
@@ -47,10 +47,10 @@ returns c =
     let a = c .before .before .args in
     let l = c .before .loop in
     let e : l .left ≡ 0 = omega arith in
-    after-all (a .v) (num (bytesOf (a .b))) (num (bytesOf (a .r))) (l .left) (num (bytesOf (l .q))) e (l .inv .1)
+    after-all (a .bits) (a .v) (num (bytesOf (a .b))) (num (bytesOf (a .r))) (l .left) (num (bytesOf (l .q))) e (l .inv .1)
 
-pub take-word-spec : {M : Type 1} → statement M
-take-word-spec =
+pub take-bits-spec : {M : Type 1} → statement M
+take-bits-spec =
     tie.close
     (tie.spec
     Inv-loop
