@@ -79,17 +79,20 @@ after-all bits v b r₀ left r z e =
 
 -- ---- the zeros at the top
 
+from-nothing : (m a : ℕ) → bitXor a (steps 127 0x87 m 0) ≡ a
+from-nothing m a = ap (bitXor a) (at-zero (steps 127 0x87 m) (steps-linear 127 0x87 m)) ∙ xor-zero-r a
+
 nothing-above : (m v : ℕ) → v ≡ 0 * 2 ^ m + v
 nothing-above m v = omega arith
 
 -- n of them add nothing
 top-zeros : (m n v b : ℕ) → v < 2 ^ m → times 127 0x87 (n + m) v b ≡ times 127 0x87 m v b
 top-zeros m n v b h =
+    let t = times 127 0x87 m v b in
     ap (λ (a : ℕ). times 127 0x87 (n + m) a b) (nothing-above m v)
     ∙ times-more 127 0x87 m n 0 v b h
-    ∙ ap (λ (z : ℕ). bitXor (times 127 0x87 m v b) (steps 127 0x87 m z)) (at-zero (λ a. times 127 0x87 n a b) (times-left 127 0x87 n b))
-    ∙ ap (bitXor (times 127 0x87 m v b)) (at-zero (steps 127 0x87 m) (steps-linear 127 0x87 m))
-    ∙ xor-zero-r (times 127 0x87 m v b)
+    ∙ ap (λ (z : ℕ). bitXor t (steps 127 0x87 m z)) (at-zero (λ a. times 127 0x87 n a b) (times-left 127 0x87 n b))
+    ∙ from-nothing m t
 
 abbrev zero-words : Words
 zero-words = record { high = 0; low = 0 }
@@ -103,14 +106,13 @@ pub word-first : (v b q : ℕ) → v < 2 ^ 64
     → q ≡ bitXor (times 127 0x87 (64 - leadingZeros 64 v) v b) (steps 127 0x87 (64 - leadingZeros 64 v) (num (bytesOf zero-words)))
     → q ≡ times 127 0x87 64 v b
 word-first v b q h e =
-    let t = leading-length 64 v h in
-    let m = t .0 in
+    let n = leading-length 64 v h in
+    let m = n .0 in
     let k : 64 - leadingZeros 64 v ≡ m = omega arith in
-    e ∙ ap (λ (i : ℕ). bitXor (times 127 0x87 i v b) (steps 127 0x87 i (num (bytesOf zero-words)))) k
-    ∙ ap (bitXor (times 127 0x87 m v b)) (ap (steps 127 0x87 m) num-zero ∙ at-zero (steps 127 0x87 m) (steps-linear 127 0x87 m))
-    ∙ xor-zero-r (times 127 0x87 m v b)
-    ∙ sym (top-zeros m (leadingZeros 64 v) v b (t .2))
-    ∙ ap (λ (i : ℕ). times 127 0x87 i v b) (t .1)
+    e ∙ ap₂ (λ (i z : ℕ). bitXor (times 127 0x87 i v b) (steps 127 0x87 i z)) k num-zero
+    ∙ from-nothing m (times 127 0x87 m v b)
+    ∙ sym (top-zeros m (leadingZeros 64 v) v b (n .2))
+    ∙ ap (λ (i : ℕ). times 127 0x87 i v b) (n .1)
 
 -- ---- two words
 

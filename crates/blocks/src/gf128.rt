@@ -61,7 +61,7 @@ fn take_bits(r: Words, v: u64, b: Words, bits: u32) -> Words
     q
 }
 
-// b times the word v, from its highest one.
+// b times the word v. The zeros above its highest one add nothing and are passed over.
 fn times_word(v: u64, b: Words) -> Words
     ensures { λ q. ⌜ num (bytesOf q) ≡ times 127 0x87 64 v (num (bytesOf b)) ⌝ }
 {

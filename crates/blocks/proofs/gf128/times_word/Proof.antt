@@ -1,4 +1,4 @@
--- The bits from the highest one, from nothing.
+-- The bits from the highest one down, from nothing.
 use borrow.Author.Needs.{needs}
 use lib.Count.{leading-le}
 use mir.Syntax.{w64}
@@ -10,7 +10,7 @@ use Rattle.blocks.proofs.gf128.times_word.Statement.{statement}
 use Rattle.blocks.proofs.gf128.times_word.Tie as tie
 
 sub-bits : tie.Need-sub-bits
-sub-bits c = leading-le 64 (c .args .v)
+sub-bits c = leading-le 64 _
 
 take-bits-requires : tie.Need-take-bits-requires
 take-bits-requires c κs = search needs
