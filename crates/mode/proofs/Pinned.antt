@@ -1,6 +1,7 @@
 -- What the demands may not lose: whatever sealing and opening take may be cut, at every block; every call that document 01 allows is allowed, at
--- every place; no pair but one is left out, every call refuses that one, and its row is all that is new; jumps go both ways up to the limit; the table's order is document 01's, and no other order passes for it.
-use mathlib.Core.Path.{_≡_, refl, sym, subst, _∙_}
+-- every place; no pair but one is left out, every call refuses that one, and its row is all that is new; jumps go both ways up to the limit; the table's
+-- order is document 01's, and no other order passes for it; every record in words is joined and closed as its bytes are.
+use mathlib.Core.Path.{_≡_, refl, sym, ap, ap₂, subst, _∙_}
 use mathlib.Core.Logic.{_⊎_, inl, inr}
 use mathlib.Core.List.{List, [], _∷_}
 use mathlib.Core.Bool.{Bool, true, false, cond, not}
@@ -9,13 +10,15 @@ use lib.IntN.{ℤ, pos, negsuc, negℤ, negℤ-negℤ}
 use lib.ListN.{length, drop}
 use native.Mathlib.Omega.{arith}
 use Rattle.blocks.specs.Bytes.{Bytes, Block, same, firstBlocks, concat}
+use Rattle.blocks.specs.declared.words.Words.{Words}
+use Rattle.blocks.specs.Words.{Proper, bytesOf, wordsOf}
 use Rattle.blocks.proofs.Chunks.{bytes-take, bytes-drop}
 use Rattle.blocks.proofs.Sign.{abs-neg}
-use Rattle.mode.specs.Mode.{Cipher, plaintext, ciphertext, RunRecord, inWords, zeroBlock, encrypt, blocksOf, ivPart, cipherPart, tagPart, sealedRecord, unbrokenTag, UnbrokenCheck}
+use Rattle.mode.specs.Mode.{Cipher, plaintext, ciphertext, RunRecord, inWords, ByteRecord, inBytes, zeroBlock, encrypt, blocksOf, ivPart, cipherPart, tagPart, sealedRecord, unbrokenTag, UnbrokenCheck}
 use Rattle.mode.specs.Table.{Answer, refused, given, decide, tableOrder, inOrder, not16, unaligned, tooLong, notSealed, beyond, tooFar, apart, notWhole, zeroMask, tooShort, limit, longestMessage}
-use Rattle.mode.specs.Calls.{Kind, middle, last, outcomeBy, blocksOfRun, unalignedRun, seal, openSealed, openRows, unpadded, notPadded, orEmpty, plaintextOf, passFrom, runRecord, sealRun, checkRun, closingTag, close, test, Calls, callsOf}
+use Rattle.mode.specs.Calls.{Outcome, Kind, middle, last, outcomeBy, blocksOfRun, unalignedRun, seal, openSealed, openRows, unpadded, notPadded, orEmpty, plaintextOf, passFrom, runRecord, sealRun, checkRun, joinTwo, closingTag, close, test, Calls, callsOf}
 use Rattle.mode.specs.Parallel.{sealing, checking, ivOf, lastKind, textOf, Fits, Cut, Setting, WellFormed, Segment, isRecorded, segment, Call, runAt, joinPair, joinMany, consecutive, AllRecorded, recordsAt, Allowed, start, roomOf, runOutcome, afterAll, EachCall}
-use Rattle.mode.specs.Demands.{Gives, Refuses, InTable, NonzeroMask, Demand2a, Demand2d, Agrees, Demand3, ZeroMask, zeroMaskIv, without, AsBefore, RunRefused, ZeroMaskRack, JumpsTo, SignedJump}
+use Rattle.mode.specs.Demands.{Gives, Refuses, InTable, NonzeroMask, Demand2a, Demand2d, Agrees, Demand3, ZeroMask, zeroMaskIv, without, AsBefore, Formed, inForm, mapAnswer, WordsAsBytes, RunRefused, ZeroMaskRack, JumpsTo, SignedJump}
 use Rattle.mode.proofs.Rows.{is-whole}
 use Rattle.mode.proofs.Passed.{has-16}
 use Rattle.mode.proofs.Demand2.{sealing-given, message-fits, sealed-lengths}
@@ -291,3 +294,47 @@ not-after-table = refl
 -- demand 1 bounds the numbers to the table's
 pub only-ten : (n : ℕ) → InTable n → (n ≡ 0 → ⊥) × (n < 11)
 only-ten n h = (λ e. omega arith, omega arith)
+
+-- ---- records in words
+
+module _ (c : Cipher) (w : WordsAsBytes c) where
+  -- a refusal is the same refusal, and what is given is the same record in words
+  pub same-refusal : (a : Answer ByteRecord) (n : ℕ) → a ≡ refused n → mapAnswer (inForm inBytes inWords) a ≡ refused n
+  unfolding mapAnswer
+  same-refusal a n e = ap (mapAnswer (inForm inBytes inWords)) e
+
+  pub same-given : (a : Answer ByteRecord) (r : ByteRecord) → a ≡ given r
+      → mapAnswer (inForm inBytes inWords) a ≡ given (record { first = r .first; count = r .count; preauthenticator = wordsOf (r .preauthenticator) })
+  unfolding mapAnswer
+  same-given a r e = ap (mapAnswer (inForm inBytes inWords)) e
+
+  -- sealing a run, with every field of what it comes to
+  pub sealed-as-in-bytes : (key iv : List ℕ) (first : ℕ) (kind : Kind) (bytes : List ℕ) (room : ℕ) → Bytes key → Bytes iv → Bytes bytes
+      → let o = sealRun inWords c key iv first kind bytes room in
+      let q = sealRun inBytes c key iv first kind bytes room in
+      (o .answer ≡ mapAnswer (inForm inBytes inWords) (q .answer)) × (o .reported ≡ q .reported) × (o .output ≡ q .output)
+  sealed-as-in-bytes key iv first kind bytes room hk hv hb =
+      let e = w .in-words .of-seal-run key iv first kind bytes room hk hv hb in
+      (ap (λ (o : Outcome RunRecord). o .answer) e, ap (λ (o : Outcome RunRecord). o .reported) e, ap (λ (o : Outcome RunRecord). o .output) e)
+
+  -- any two records in words are joined as their bytes are, and any one is closed as its bytes are
+  made : (r : RunRecord) → Proper (r .preauthenticator) → inForm inBytes inWords (inForm inWords inBytes r) ≡ r
+  made r h = w .words-formed r h .is-made
+
+  held : (r : RunRecord) → Proper (r .preauthenticator) → Formed inBytes (inForm inWords inBytes r)
+  held r h = w .bytes-formed (inForm inWords inBytes r) (w .words-formed r h .is-block)
+
+  pub joined-as-in-bytes : (l r : RunRecord) → Proper (l .preauthenticator) → Proper (r .preauthenticator)
+      → joinTwo inWords l r ≡ mapAnswer (inForm inBytes inWords) (joinTwo inBytes (inForm inWords inBytes l) (inForm inWords inBytes r))
+  joined-as-in-bytes l r hl hr =
+      sym (ap₂ (joinTwo inWords) (made l hl) (made r hr)) ∙ w .in-words .of-join (inForm inWords inBytes l) (inForm inWords inBytes r) (held l hl) (held r hr)
+
+  pub closed-as-in-bytes : (key iv : List ℕ) (r : RunRecord) → Proper (r .preauthenticator) → close inWords c key iv r ≡ close inBytes c key iv (inForm inWords inBytes r)
+  closed-as-in-bytes key iv r h = sym (ap (close inWords c key iv) (made r h)) ∙ w .in-words .of-close key iv (inForm inWords inBytes r) (held r h)
+
+  -- two different pairs of words have different bytes, and two different blocks different words
+  pub words-apart : (v x : Words) → Proper v → Proper x → bytesOf v ≡ bytesOf x → v ≡ x
+  words-apart v x hv hx e = sym (w .one-form .of-words v hv .1) ∙ ap wordsOf e ∙ w .one-form .of-words x hx .1
+
+  pub blocks-apart : (a b : List ℕ) → Block a → Block b → wordsOf a ≡ wordsOf b → a ≡ b
+  blocks-apart a b ha hb e = sym (w .one-form .of-bytes a ha .1) ∙ ap bytesOf e ∙ w .one-form .of-bytes b hb .1
