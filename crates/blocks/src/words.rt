@@ -1,10 +1,9 @@
 // Two 64-bit words for the sixteen bytes of a block: the first eight bytes are the upper word, most significant byte first.
 ghost use mathlib.Core.Path.{_≡_};
-ghost use mathlib.Core.Bool.{Bool};
 ghost use mathlib.Core.List.{[], _∷_, _++_};
 ghost use Prim.Native.Nat.{_+_, _≤_};
 ghost use lib.ListN.{length, take, drop};
-ghost use Rattle.blocks.specs.Bytes.{xorBytes, same};
+ghost use Rattle.blocks.specs.Bytes.{xorBytes};
 ghost use Rattle.blocks.specs.Gf128.{num, lowBytes};
 ghost use Rattle.blocks.specs.Words.{bytesOf};
 

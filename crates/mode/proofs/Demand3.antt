@@ -3,15 +3,15 @@
 use mathlib.Core.Path.{_≡_, refl, sym, ap, ap₂, subst, _∙_}
 use mathlib.Core.Logic.{_⊎_, inl, inr, _↔_}
 use mathlib.Core.List.{List, [], _∷_, _++_, map, append-nil}
-use mathlib.Core.Bool.{Bool, true, false, cond, not, _&&_}
+use mathlib.Core.Bool.{Bool, true, false, cond, not}
 use Prim.Native.Nat.{ℕ, zero, suc, _+_, _*_, _-_, _/_, _%_, _≤_, _<_}
 use native.Mathlib.Omega.{arith}
 use lib.ListN.{length, take, drop, set, replicate, length-append, length-drop}
 use lib.Seq.{split-at, set-split, take-append-seam, length-take-le}
-use lib.Dec.{eqb, leb}
-use borrow.Author.Tests.{eq-eqb, ne-eqb, eqb-true, le-leb, lt-leb}
+use lib.Dec.{leb}
+use borrow.Author.Tests.{ne-eqb, le-leb, lt-leb}
 use Rattle.blocks.specs.Bytes.{Bytes, Block, same, concat}
-use Rattle.mode.specs.Mode.{Cipher, Lawful, RunRecord, inWords, pass, unbroken, unbrokenTag, tagFrom, recordOf, startMask, blocksOf, padded, zeroBlock, cipherPart, tagPart, UnbrokenCheck}
+use Rattle.mode.specs.Mode.{Cipher, Lawful, RunRecord, inWords, pass, unbroken, unbrokenTag, tagFrom, recordOf, blocksOf, padded, cipherPart, tagPart, UnbrokenCheck}
 use Rattle.mode.specs.Table.{Answer, refused, given, decide, beyond, anyBeyond, apart, none, notWhole, zeroMask, limit}
 use Rattle.mode.specs.Calls.{Kind, middle, last, blocksOfRun, unalignedRun, Outcome, outcomeBy, joinedOnto, joinedAll, joinTwo, joinList, closingTag, close, test, callsOf}
 use Rattle.mode.specs.Parallel.{Work, sealing, checking, sourceOf, ivOf, textOf, lastKind, allBlocks, Fits, Cut, Setting, WellFormed, Run, runsFrom, Segment, pending, recorded, blocksOfRuns, runsIn, recordIn, bytesIn, isRecorded, runsOf, bytesOfSegments, blocksIn, noSegment, segment, Call, runAt, joinPair, joinMany, consecutive, AllRecorded, recordsAt, Allowed, mergeBy, recordBy, headOr, firstRun, empties, start, roomOf, outcomeOfRun, runOutcome, answerOf, after, afterAll, EachCall}
@@ -21,7 +21,7 @@ use Rattle.mode.proofs.Laws.{AllLong, mask-there}
 use Rattle.mode.proofs.Same.{same-true, same-self}
 use Rattle.mode.proofs.Bytes.{AllBlocks, all-blocks-long, all-blocks-left, all-blocks-right, good-blocks, run-blocks}
 use Rattle.mode.proofs.InWords.{record-bytes}
-use Rattle.mode.proofs.Blocks.{blocksOf-append, long-blocks, padded-append, count-middle, count-last, aligned, run-long}
+use Rattle.mode.proofs.Blocks.{blocksOf-append, padded-append, count-middle, count-last, aligned}
 use Rattle.mode.proofs.Runs.{is16, within, iv-long, Suits, GoodRun, outputOf, recordFor, part, unbroken-output, run-outcome}
 use Rattle.mode.proofs.Segments.{blocksIn-cons, blocksIn-append, blocksIn-one, three, blocks-three, one-there, recorded-inside, Recs, window, SoundAt, Sound, sound-split, sound-join, sound-at, none-beyond, not-apart, joined-all, bytes-all}
 

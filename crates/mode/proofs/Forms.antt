@@ -10,12 +10,12 @@ use Rattle.blocks.specs.Bytes.{Bytes, Block, xorBytes, same}
 use Rattle.blocks.specs.Gf128.{jump}
 use Rattle.blocks.proofs.TimesX.{block-jump}
 use Rattle.blocks.proofs.Bridge.{block-bytesOf, proper-wordsOf, bytes-words, words-bytes}
-use Rattle.mode.specs.Mode.{Cipher, Lawful, Source, plaintext, ciphertext, Form, inWords, inBytes, zeroBlock, startMask, tagFrom, pass}
+use Rattle.mode.specs.Mode.{Cipher, Lawful, Source, plaintext, ciphertext, Form, inWords, inBytes, zeroBlock, startMask, tagFrom}
 use Rattle.mode.specs.Table.{Answer, refused, given, decide, NoneHolds, not16, beyond, anyBeyond, apart, none, notWhole, zeroMask}
 use Rattle.mode.specs.Calls.{outcomeBy, unalignedRun, Kind, middle, blocksOfRun, joined, joinedOnto, joinedAll, joinTwo, joinTwoRows, joinList, joinListRows, passFrom, runRecord, sealRun, sealRunRows, checkRun, checkRunRows, closingTag, close, test}
-use Rattle.mode.specs.Demands.{OneForm, Formed, EachFormed, inForm, mapAnswer, mapOutcome, SameIn, WordsAsBytes}
+use Rattle.mode.specs.Demands.{Formed, EachFormed, inForm, mapAnswer, mapOutcome, SameIn, WordsAsBytes}
 use Rattle.mode.proofs.Passed.{has-16}
-use Rattle.mode.proofs.Bytes.{AllBlocks, run-blocks}
+use Rattle.mode.proofs.Bytes.{run-blocks}
 use Rattle.mode.proofs.Halves.{start-block, preauthenticator-block}
 use Rattle.mode.proofs.InWords.{same-record, block-zero, joined-block}
 

@@ -1,5 +1,4 @@
 -- Under a key of 16 bytes every block goes to a block: the halves both ways, the start mask, the middletext, the pre-authenticator.
-use mathlib.Core.Path.{_≡_}
 use mathlib.Core.List.{List, [], _∷_}
 use mathlib.Core.Bool.{Bool, true, false, cond}
 use Prim.Native.Nat.{ℕ}

@@ -10,17 +10,17 @@ use lib.ListN.{length, take, replicate}
 use lib.Seq.{take-append-seam}
 use lib.Dec.{eqb, ltb}
 use borrow.Author.Tests.{eqb-true, ltb-false, not-false}
-use Rattle.blocks.specs.Bytes.{xorBytes, Bytes, Block, concat}
+use Rattle.blocks.specs.Bytes.{xorBytes, Block, concat}
 use Rattle.blocks.specs.Gf128.{jump}
 use Rattle.blocks.specs.Words.{Proper, bytesOf, wordsOf}
 use Rattle.blocks.proofs.Bridge.{block-bytesOf, bytes-words, words-bytes}
 use Rattle.blocks.proofs.XorBytes.{xorBytes-assoc, xorBytes-zeros}
 use Rattle.blocks.proofs.TimesX.{jump-xor, jump-add, length-jump, block-jump}
-use Rattle.mode.specs.Mode.{Cipher, Lawful, plaintext, ciphertext, RunRecord, inWords, zeroBlock, startMask, blocksOf, padded}
-use Rattle.mode.specs.Table.{Answer, refused, given, decide, NoneHolds, unaligned, beyond, anyBeyond, apart, limit, none}
-use Rattle.mode.specs.Calls.{unalignedRun, joined, joinedOnto, joinedAll, joinList, Kind, middle, last, blocksOfRun, outcomeBy, passFrom, runRecord, sealRun, sealRunRows, checkRun, checkRunRows}
+use Rattle.mode.specs.Mode.{Cipher, Lawful, plaintext, ciphertext, RunRecord, inWords, zeroBlock, startMask, blocksOf}
+use Rattle.mode.specs.Table.{Answer, refused, given, decide, NoneHolds, beyond, anyBeyond, apart, limit, none}
+use Rattle.mode.specs.Calls.{joined, joinedOnto, joinedAll, joinList, blocksOfRun, outcomeBy, passFrom, runRecord, sealRun, sealRunRows, checkRun, checkRunRows}
 use Rattle.mode.proofs.InWords.{same-record, block-zero, joined-block}
-use Rattle.mode.proofs.Blocks.{length-padded, aligned}
+use Rattle.mode.proofs.Blocks.{aligned}
 use Rattle.mode.proofs.Runs.{is16}
 use Rattle.mode.proofs.Bytes.{AllBlocks, run-blocks, blocks-concat, length-concat}
 use Rattle.mode.specs.Demands.{CheckedAsSealed, ListWithin}

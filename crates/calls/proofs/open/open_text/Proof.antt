@@ -9,7 +9,7 @@ use lib.Seq.{length-take-le}
 use Rattle.blocks.specs.Bytes.{zeros}
 use Rattle.blocks.specs.Words.{bytesOf}
 use Rattle.blocks.proofs.Zeros.{drop-zeros, length-zeros}
-use Rattle.mode.specs.Mode.{Pass, ciphertext, blocksOf, startMask, unbroken, tagFrom, unbrokenTag, ivPart, cipherPart}
+use Rattle.mode.specs.Mode.{Pass, blocksOf, startMask, unbroken, tagFrom, unbrokenTag, ivPart, cipherPart}
 use Rattle.mode.specs.Aes.{aes}
 use Rattle.mode.specs.Calls.{plaintextOf}
 use Rattle.mode.proofs.Demand3.{cipher-length}

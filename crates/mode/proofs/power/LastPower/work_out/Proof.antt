@@ -2,7 +2,7 @@
 use borrow.Author.Needs.{needs}
 use mathlib.Core.Path.{ap}
 use mathlib.Core.Bool.{true}
-use Prim.Native.Nat.{ℕ, _+_}
+use Prim.Native.Nat.{_+_}
 use lib.IntN.{pos}
 use Rattle.blocks.specs.Gf128.{power, signed}
 use Rattle.blocks.specs.declared.words.Words.{Words}
