@@ -1,5 +1,6 @@
 // Document 01, step 2, over the blocks of a slice: each block is masked, goes through one half to the middletext and through the other
-// on, and is masked again; the pre-authenticator takes up the middletext, and the mask is multiplied by x.
+// on, and is masked again; the pre-authenticator takes up the middletext, and the mask is multiplied by x. The mask of the next block is
+// kept beside that of this one, since it is laid out ahead (masked.rt).
 use blocks::words::Words;
 ghost use mathlib.Core.Path.{_≡_};
 ghost use Prim.Native.Nat.{_+_, _*_};
