@@ -25,5 +25,6 @@ mod spread;
 mod start_mask;
 mod typed;
 mod vectors;
+mod words;
 mod zero_mask;
 mod zero_mask_rows;

@@ -1,4 +1,5 @@
-//! What the tests share: two other implementations of the mode, and a bench that holds every call of the library against them.
+//! What the tests share: two other implementations of the mode, a bench that holds every call of the library against them, and the
+//! mode in 64-bit words.
 
 pub mod aesni;
 pub mod bench;
@@ -16,3 +17,4 @@ pub mod reference;
 pub mod sealed_list;
 pub mod segments;
 pub mod tally;
+pub mod words;

@@ -34,11 +34,14 @@ pub const NO_MASK: Topic = topic("mask of nothing, every call", 20, 16_000);
 pub const NO_MASK_ROWS: Topic = topic("mask of nothing, rows above and below", 21, 77_000);
 pub const NO_MASK_EMPTY: Topic = topic("mask of nothing, empty runs", 22, 24_000);
 pub const NEAR_NO_MASK: Topic = topic("next to a mask of nothing", 23, 7_000);
+pub const WORDS_JUMPED: Topic = topic("jumping in 64-bit words", 24, 50_000);
+pub const WORDS_JOINED: Topic = topic("joining in 64-bit words", 25, 100_000);
+pub const WORDS_SEALED: Topic = topic("runs and tags in 64-bit words", 26, 10_000);
 
 /// How many cuts each of their two topics has.
 pub const CUTS: usize = 12_000;
 
-const ALL: [Topic; 23] = [
+const ALL: [Topic; 26] = [
     SEALING,
     SEALING_EDGES,
     OPENING,
@@ -62,6 +65,9 @@ const ALL: [Topic; 23] = [
     NO_MASK_ROWS,
     NO_MASK_EMPTY,
     NEAR_NO_MASK,
+    WORDS_JUMPED,
+    WORDS_JOINED,
+    WORDS_SEALED,
 ];
 
 /// Each topic's test sees that it made its number of calls.
