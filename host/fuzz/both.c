@@ -1,6 +1,7 @@
 #include "both.h"
 
 #include "balzenoh.h"
+#include "bytes.h"
 #include "reference.h"
 
 #include <stdio.h>
@@ -100,16 +101,33 @@ uint8_t both_check_run(slice key, slice iv, uint32_t first, slice bytes, size_t 
                                                        answer_run, record_room));
 }
 
+/* The answered record's pre-authenticator is what the records, and the others after them, come to byte by byte. */
+static uint8_t compare_bytes_joined(uint8_t refusal, slice records, slice others) {
+    uint8_t pre[16];
+    if (refusal != 0)
+        return refusal;
+    memcpy(pre, records.bytes + 8, 16);
+    for (size_t i = 24; i < records.len; i += 24)
+        bytes_join(pre, records.bytes + i);
+    for (size_t i = 0; i < others.len; i += 24)
+        bytes_join(pre, others.bytes + i);
+    must_be_same("joining in words", answer_run + 8, pre, 16);
+    return refusal;
+}
+
 uint8_t both_join(slice left, slice right, size_t record_room) {
     lend(0, record_room);
     uint8_t got = balzenoh_join(guard_input(0, left), left.len, guard_input(1, right), right.len, run, record_room);
-    return compare(JOIN, got, reference_join(left.bytes, left.len, right.bytes, right.len, answer_run, record_room));
+    uint8_t refusal = compare(JOIN, got, reference_join(left.bytes, left.len, right.bytes, right.len, answer_run, record_room));
+    return compare_bytes_joined(refusal, left, right);
 }
 
 uint8_t both_join_list(slice records, size_t record_room) {
+    static const slice none;
     lend(0, record_room);
     uint8_t got = balzenoh_join_list(guard_input(0, records), records.len, run, record_room);
-    return compare(JOIN_LIST, got, reference_join_list(records.bytes, records.len, answer_run, record_room));
+    uint8_t refusal = compare(JOIN_LIST, got, reference_join_list(records.bytes, records.len, answer_run, record_room));
+    return compare_bytes_joined(refusal, records, none);
 }
 
 uint8_t both_close(slice key, slice iv, slice record, size_t room) {
@@ -126,9 +144,16 @@ uint8_t both_test(slice key, slice iv, slice record, slice tag) {
 }
 
 uint8_t both_jump(slice mask, int32_t distance, size_t room) {
+    uint8_t moved[16];
     lend(room, 0);
     uint8_t got = balzenoh_jump(guard_input(0, mask), mask.len, distance, out, room);
-    return compare(JUMP, got, reference_jump(mask.bytes, mask.len, distance, answer, room));
+    uint8_t refusal = compare(JUMP, got, reference_jump(mask.bytes, mask.len, distance, answer, room));
+    if (refusal == 0) {
+        memcpy(moved, mask.bytes, 16);
+        bytes_jump(moved, distance);
+        must_be_same("jumping in words", answer, moved, 16);
+    }
+    return refusal;
 }
 
 void print_counts(void) {

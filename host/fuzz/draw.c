@@ -26,7 +26,7 @@ static uint32_t draw_32_bits(draw *d) {
 }
 
 uint32_t draw_number(draw *d) {
-    static const uint32_t edges[] = {127, 128, 129, 255, 256, 2000, 3984, 3998, 3999, 4000, 4001, 4095, 4096, 65535, 65536,
+    static const uint32_t edges[] = {63, 64, 65, 127, 128, 129, 255, 256, 2000, 3984, 3998, 3999, 4000, 4001, 4095, 4096, 65535, 65536,
                                      0x7fffffff, 0x80000000, 0xfffff060, 0xfffffffe, 0xffffffff};
     switch (draw_below(d, 4)) {
     case 0:
@@ -41,7 +41,7 @@ uint32_t draw_number(draw *d) {
 }
 
 int32_t draw_distance(draw *d) {
-    static const int32_t edges[] = {127, 128, 129, 3999, 4000, 4001, 4096, 65536, INT32_MAX};
+    static const int32_t edges[] = {63, 64, 65, 127, 128, 129, 3999, 4000, 4001, 4096, 65536, INT32_MAX};
     int32_t sign = draw_rarely(d, 2) ? -1 : 1;
     switch (draw_below(d, 5)) {
     case 0:

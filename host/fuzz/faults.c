@@ -52,6 +52,13 @@ uint8_t __wrap_balzenoh_open(const uint8_t *key, size_t key_len, const uint8_t *
     return refusal;
 }
 
+static void swap_words(uint8_t *block) {
+    uint8_t upper[8];
+    memcpy(upper, block, 8);
+    memcpy(block, block + 8, 8);
+    memcpy(block + 8, upper, 8);
+}
+
 /* The fault of jumping by the run's count of blocks where its first block should be taken. */
 uint8_t __real_balzenoh_seal_run(const uint8_t *, size_t, const uint8_t *, size_t, uint32_t, uint8_t, const uint8_t *, size_t,
                                  uint8_t *, size_t, size_t *, uint8_t *, size_t);
@@ -70,6 +77,8 @@ uint8_t __wrap_balzenoh_seal_run(const uint8_t *key, size_t key_len, const uint8
     }
     if (fault_is("zero-mask-judged-before-the-limit") && refusal == 4 && memcmp(key, no_key, 16) == 0 && is_replaced(key, iv))
         return 10;
+    if (fault_is("words-swapped-in-a-record") && refusal == 0)
+        swap_words(run + 8);
     return refusal;
 }
 
@@ -135,6 +144,16 @@ static void join_by_wrong_powers(const uint8_t *records, size_t records_len, uin
     }
 }
 
+/* What has been added to the joined record's low word is taken off again. */
+uint8_t __real_balzenoh_join(const uint8_t *, size_t, const uint8_t *, size_t, uint8_t *, size_t);
+uint8_t __wrap_balzenoh_join(const uint8_t *left, size_t left_len, const uint8_t *right, size_t right_len, uint8_t *run, size_t run_len) {
+    uint8_t refusal = __real_balzenoh_join(left, left_len, right, right_len, run, run_len);
+    if (fault_is("low-word-of-a-join-not-added") && refusal == 0)
+        for (size_t i = 16; i < 24; i++)
+            run[i] ^= right[i];
+    return refusal;
+}
+
 uint8_t __real_balzenoh_join_list(const uint8_t *, size_t, uint8_t *, size_t);
 uint8_t __wrap_balzenoh_join_list(const uint8_t *records, size_t records_len, uint8_t *run, size_t run_len) {
     uint8_t refusal = __real_balzenoh_join_list(records, records_len, run, run_len);
@@ -145,8 +164,17 @@ uint8_t __wrap_balzenoh_join_list(const uint8_t *records, size_t records_len, ui
     return refusal;
 }
 
-/* The first fault is wrong for one IV of each key only, the one for which the start mask comes out as zero; the second for one IV only. */
+/* Closes a record whose upper word is read least significant byte first. */
 uint8_t __real_balzenoh_close(const uint8_t *, size_t, const uint8_t *, size_t, const uint8_t *, size_t, uint8_t *, size_t);
+static uint8_t close_from_the_low_end(const uint8_t *key, const uint8_t *iv, const uint8_t *run, uint8_t *tag, size_t tag_len) {
+    uint8_t other[24];
+    memcpy(other, run, 24);
+    for (size_t i = 0; i < 8; i++)
+        other[8 + i] = run[15 - i];
+    return __real_balzenoh_close(key, 16, iv, 16, other, 24, tag, tag_len);
+}
+
+/* The first fault is wrong for one IV of each key only, the one for which the start mask comes out as zero; the second for one IV only. */
 uint8_t __wrap_balzenoh_close(const uint8_t *key, size_t key_len, const uint8_t *iv, size_t iv_len, const uint8_t *run, size_t run_len,
                               uint8_t *tag, size_t tag_len) {
     uint8_t refusal = __real_balzenoh_close(key, key_len, iv, iv_len, run, run_len, tag, tag_len);
@@ -158,6 +186,8 @@ uint8_t __wrap_balzenoh_close(const uint8_t *key, size_t key_len, const uint8_t 
     }
     if (fault_is("output-left-after-a-zero-mask") && refusal == 10 && tag_len > 0)
         tag[tag_len - 1] = 1;
+    if (fault_is("word-read-from-the-low-end") && refusal == 0)
+        return close_from_the_low_end(key, iv, run, tag, tag_len);
     return refusal;
 }
 
@@ -186,6 +216,23 @@ static int32_t wrong_distance(int32_t distance) {
     return distance;
 }
 
+/* A jump forward in single steps that go wrong between the words: the low word's top bit is lost, or 87 for the upper word's own comes into the
+   upper word. */
+static void jump_by_wrong_steps(const uint8_t *mask, int32_t distance, uint8_t *out) {
+    memcpy(out, mask, 16);
+    for (; distance > 0; distance--) {
+        uint8_t product[16], fell_out = out[0] >> 7, carry = out[8] >> 7;
+        reference_jump(out, 16, 1, product, 16);
+        if (fault_is("carry-between-the-words-lost"))
+            product[7] ^= carry;
+        if (fault_is("87-into-the-upper-word") && fell_out) {
+            product[7] ^= 0x87;
+            product[15] ^= 0x87;
+        }
+        memcpy(out, product, 16);
+    }
+}
+
 /* With 85 for 87 the last division is wrong where the low bit was set before it, which is where the top bit is set after it. */
 uint8_t __real_balzenoh_jump(const uint8_t *, size_t, int32_t, uint8_t *, size_t);
 uint8_t __wrap_balzenoh_jump(const uint8_t *mask, size_t mask_len, int32_t distance, uint8_t *out, size_t out_len) {
@@ -198,5 +245,7 @@ uint8_t __wrap_balzenoh_jump(const uint8_t *mask, size_t mask_len, int32_t dista
     }
     if (fault_is("division-with-85-for-87") && refusal == 0 && distance < 0 && out[0] >= 0x80)
         out[15] ^= (0x85 ^ 0x87) >> 1;
+    if ((fault_is("carry-between-the-words-lost") || fault_is("87-into-the-upper-word")) && refusal == 0 && distance > 0)
+        jump_by_wrong_steps(mask, distance, out);
     return refusal;
 }
