@@ -11,6 +11,8 @@ const struct shape shapes[SHAPES] = {
     [IN_TURN] = {"1000 of 4 and 3 in turn", 1000, {4, 3}},
     [EQUAL_200] = {"20 of 200 blocks", 20, {200, 200}},
     [EQUAL_500] = {"8 of 500 blocks", 8, {500, 500}},
+    [TWO_OF_4] = {"2 of 4 blocks", 2, {4, 4}},
+    [TWO_OF_2000] = {"2 of 2000 blocks", 2, {2000, 2000}},
 };
 
 typedef uint8_t record[BALZENOH_RUN_RECORD];

@@ -68,11 +68,20 @@ static double over_list(const struct figures *f, int shape, int way) {
 
 static void print_joins(const struct figures *f) {
     printf("%-26s%10s%8s%16s%12s%16s\n", "joins, ns a record", "as a list", "pairs", "times the list", "C by words", "times the list");
-    for (int shape = 0; shape < SHAPES; shape++) {
+    for (int shape = 0; shape < LIST_SHAPES; shape++) {
         double records = (double)shapes[shape].records;
         const double *times = f->join[shape];
         printf("  %-24s%10.0f%8.0f%16.2f%12.1f%16.3f\n", shapes[shape].name, times[AS_LIST] / records, times[PAIR_BY_PAIR] / records,
                over_list(f, shape, PAIR_BY_PAIR), times[BY_STEPS] / records, over_list(f, shape, BY_STEPS));
+    }
+}
+
+/* Two records pair by pair are one join. */
+static void print_one_join(const struct figures *f) {
+    printf("%-26s%18s%28s%16s\n", "one join, ns", "join", "C by words", "times the join");
+    for (int shape = LIST_SHAPES; shape < SHAPES; shape++) {
+        double join = f->join[shape][PAIR_BY_PAIR], steps = f->join[shape][BY_STEPS];
+        printf("  %-24s%18.0f%28.1f%16.3f\n", shapes[shape].name, join, steps, steps / join);
     }
 }
 
@@ -90,6 +99,7 @@ void print_table(const struct figures *f) {
     print_over_aes(f, OPEN, DECRYPT);
     print_masks(f);
     print_joins(f);
+    print_one_join(f);
     printf("the longest list in two runs, us a list%14s%12s%10s\n", "one thread", "two", "ratio");
     print_threads("one list, with the second thread's start", f->one_thread, f->two_threads, 1);
     print_threads("eight lists in turn, with its start", f->one_thread_lists, f->two_threads_lists, LISTS);
@@ -108,6 +118,10 @@ static void expect_at_most(const char *what, double figure, double most) {
     print_expectation(what, figure, "at most", most, figure <= most);
 }
 
+static void expect_ns_at_most(const char *what, double ns, double most) {
+    printf("  %-52s%8.0f  at most  %4.0f  %s\n", what, ns, most, ns <= most ? "met" : "not met");
+}
+
 void print_expectations(const struct figures *f) {
     char what[80];
     printf("expected\n");
@@ -116,14 +130,17 @@ void print_expectations(const struct figures *f) {
             snprintf(what, sizeof what, "%s, %zu bytes, to C byte tables", task_names[task], 16 * blocks_of[size]);
             expect(what, against(f, size, task, BYTES_O3), 0.95);
         }
-    expect("seal over AES encrypt, Balzenoh", over_aes(f, SEAL, ENCRYPT, OURS), 0.93);
-    expect("open over AES decrypt, Balzenoh", over_aes(f, OPEN, DECRYPT, OURS), 0.93);
+    expect("seal over AES encrypt, Balzenoh", over_aes(f, SEAL, ENCRYPT, OURS), 0.95);
+    expect("open over AES decrypt, Balzenoh", over_aes(f, OPEN, DECRYPT, OURS), 0.95);
+    expect_ns_at_most("jump by 4000, ns", f->far[FORWARD][JUMP], 450);
+    expect_ns_at_most("jump by -4000, ns", f->far[BACK][JUMP], 450);
     expect("4000 steps by bytes over jump by 4000", over_jump(f, FORWARD, STEPS_BY_BYTES), 8);
     expect("4000 steps by 64-bit words over jump by 4000", over_jump(f, FORWARD, STEPS_BY_WORDS), 8);
     expect("4000 divisions by bytes over jump by -4000", over_jump(f, BACK, STEPS_BY_BYTES), 8);
     expect("4000 divisions by 64-bit words over jump by -4000", over_jump(f, BACK, STEPS_BY_WORDS), 8);
     expect_at_most("jump by -4000 over jump by 4000", f->far[BACK][JUMP] / f->far[FORWARD][JUMP], 1.1);
-    expect("1000 records of 4 blocks, pairs over the list", over_list(f, EQUAL_4, PAIR_BY_PAIR), 3);
+    /* By bytes a power of x took four times the product, and in words it takes no more than that: a list which keeps its power saves less. */
+    expect("1000 records of 4 blocks, pairs over the list", over_list(f, EQUAL_4, PAIR_BY_PAIR), 1);
     /* Where no power serves twice the list is no slower than working out each anew. */
     expect("1000 of 4 and 3 in turn, pairs over the list", over_list(f, IN_TURN, PAIR_BY_PAIR), 0.95);
     expect("one thread over two, one list", f->one_thread / f->two_threads, 1.8);

@@ -30,7 +30,7 @@ struct shape {
     const char *name;
     size_t records, counts[2];
 };
-enum { EQUAL_4, EQUAL_1, IN_TURN, EQUAL_200, EQUAL_500, SHAPES };
+enum { EQUAL_4, EQUAL_1, IN_TURN, EQUAL_200, EQUAL_500, LIST_SHAPES, TWO_OF_4 = LIST_SHAPES, TWO_OF_2000, SHAPES };
 enum { MOST_RECORDS = 1000 };
 extern const struct shape shapes[SHAPES];
 
