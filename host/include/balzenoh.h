@@ -73,19 +73,19 @@
  *  - Its size, and the stack that each call was seen to use, from its caller's frame down, as
  *    host/stack/run printed them, in bytes:
  *
- *      code      23820
- *      constants  2016
+ *      code      16112
+ *      constants  1920
  *      variables     0
  *
- *      seal       1952
- *      open       2384
- *      seal_run   1984
- *      check_run  1968
- *      join        832
- *      join_list   928
- *      close      1712
- *      test       1696
- *      jump        576
+ *      seal       1600
+ *      open       2128
+ *      seal_run   1920
+ *      check_run  1904
+ *      join        388
+ *      join_list   452
+ *      close      1680
+ *      test       1664
+ *      jump        164
  *
  *    No function recurses. No proof bounds the stack.
  *

@@ -71,6 +71,8 @@ fn the_library_takes_what_the_pages_say() {
             assert!(right, "{page} says {said} for {name}, measured are {measured}: put in what host/stack/run prints");
         }
     }
+    // Ticket P12 asks for a jump in less than 1 KB.
+    assert!(figure(&printed, "jump").expect("a figure") < 1_024);
 }
 
 #[test]
