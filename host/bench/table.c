@@ -139,7 +139,7 @@ void print_expectations(const struct figures *f) {
     expect("4000 divisions by bytes over jump by -4000", over_jump(f, BACK, STEPS_BY_BYTES), 8);
     expect("4000 divisions by 64-bit words over jump by -4000", over_jump(f, BACK, STEPS_BY_WORDS), 8);
     expect_at_most("jump by -4000 over jump by 4000", f->far[BACK][JUMP] / f->far[FORWARD][JUMP], 1.1);
-    /* By bytes a power of x cost several products, in words it costs less than one: a list that keeps its power saves less. */
+    /* By bytes a power of x cost several products, in words about one: a list that keeps its power saves less. */
     expect("1000 records of 4 blocks, pairs over the list", over_list(f, EQUAL_4, PAIR_BY_PAIR), 1);
     /* Where no power serves twice the list is no slower than working out each anew. */
     expect("1000 of 4 and 3 in turn, pairs over the list", over_list(f, IN_TURN, PAIR_BY_PAIR), 0.95);
