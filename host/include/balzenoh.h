@@ -73,19 +73,19 @@
  *  - Its size, and the stack that each call was seen to use, from its caller's frame down, as
  *    host/stack/run printed them, in bytes:
  *
- *      code      16112
+ *      code      15106
  *      constants  1920
  *      variables     0
  *
  *      seal       1600
- *      open       2128
+ *      open       1840
  *      seal_run   1920
- *      check_run  1904
+ *      check_run  1872
  *      join        388
  *      join_list   452
- *      close      1680
- *      test       1664
- *      jump        164
+ *      close      1664
+ *      test       1648
+ *      jump        244
  *
  *    No function recurses. No proof bounds the stack.
  *
