@@ -285,8 +285,8 @@ pub record SameIn (c : Cipher) (f g : Form) : Type 0 where
   pub of-close : (key iv : List ℕ) (r : f .Record) → Formed f r → close g c key iv (inForm f g r) ≡ close f c key iv r
   pub of-test : (key iv : List ℕ) (r : f .Record) (tag : List ℕ) → Formed f r → test g c key iv (inForm f g r) tag ≡ test f c key iv r tag
 
--- The records in words are those in bytes, and the reverse. Every record in words, and every one in bytes whose pre-authenticator is a block, is
--- one that its form can hold.
+-- The records in words are those in bytes, and the reverse. Every record whose words have 64 bits, and every one in bytes whose
+-- pre-authenticator is a block, is one that its form can hold.
 pub record WordsAsBytes (c : Cipher) : Type 0 where
   pub one-form : OneForm
   pub in-words : SameIn c inBytes inWords
