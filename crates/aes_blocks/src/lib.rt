@@ -6,7 +6,7 @@ ghost use Prim.Native.Nat.{_*_, _/_, _≤_};
 ghost use lib.ListN.{length, drop};
 ghost use Rattle.fips197.specs.Sbox.{sbox as sboxOf, invSbox};
 ghost use Rattle.fips197.specs.Aes128.{encrypt, decrypt};
-ghost use Rattle.aes.specs.Table.{Tabulates};
+ghost use Rattle.aes_tables.specs.Table.{Tabulates};
 ghost use Rattle.runs.specs.Run.{keyOf, Expanded};
 ghost use Rattle.mode.specs.Table.{firstRow};
 ghost use Rattle.mode.specs.Calls.{number};
@@ -41,8 +41,8 @@ fn encrypt_all(keys: &[u8; 176], sbox: &[u8; 256], text: &[u8], out: &mut [u8])
     while i < n {
         let at = i * 16;
         let block = blocks::block::load(text, at);
-        let middle = aes::forward::first_half(block, keys, sbox);
-        let whole = aes::forward::second_half(middle, keys, sbox);
+        let middle = aes_tables::forward::first_half(block, keys, sbox);
+        let whole = aes_tables::forward::second_half(middle, keys, sbox);
         blocks::block::store(out, at, whole);
         i += 1;
     }
@@ -59,8 +59,8 @@ fn decrypt_all(keys: &[u8; 176], inv_sbox: &[u8; 256], text: &[u8], out: &mut [u
     while i < n {
         let at = i * 16;
         let block = blocks::block::load(text, at);
-        let middle = aes::backward::inv_second_half(block, keys, inv_sbox);
-        let whole = aes::backward::inv_first_half(middle, keys, inv_sbox);
+        let middle = aes_tables::backward::inv_second_half(block, keys, inv_sbox);
+        let whole = aes_tables::backward::inv_first_half(middle, keys, inv_sbox);
         blocks::block::store(out, at, whole);
         i += 1;
     }
@@ -86,7 +86,7 @@ fn start(key: &[u8], text: &[u8], out: &mut [u8]) -> Started
         };
     }
     let k = blocks::block::load(key, 0);
-    let keys = aes::key::expand(k);
+    let keys = aes_tables::key::expand(k);
     Started { refusal: 0, keys }
 }
 
@@ -102,7 +102,7 @@ pub extern "C" fn aes_blocks_encrypt(key: &[u8], text: &[u8], out: &mut [u8]) ->
     if refusal != 0 {
         return refusal;
     }
-    let sbox = &aes::sbox::SBOX;
+    let sbox = &aes_tables::sbox::SBOX;
     encrypt_all(&keys, sbox, text, out);
     0
 }
@@ -119,7 +119,7 @@ pub extern "C" fn aes_blocks_decrypt(key: &[u8], text: &[u8], out: &mut [u8]) ->
     if refusal != 0 {
         return refusal;
     }
-    let inv_sbox = &aes::inv_sbox::INV_SBOX;
+    let inv_sbox = &aes_tables::inv_sbox::INV_SBOX;
     decrypt_all(&keys, inv_sbox, text, out);
     0
 }

@@ -11,27 +11,27 @@ pub fn one_if(agreed: bool) -> usize
 pub fn encrypts(key: [u8; 16], plain: [u8; 16], cipher: [u8; 16]) -> usize
     ensures { λ r. ⌜ r ≤ 1 ⌝ }
 {
-    one_if(blocks::block::equal(aes::encrypt_block(key, plain), cipher))
+    one_if(blocks::block::equal(aes_tables::encrypt_block(key, plain), cipher))
 }
 
 pub fn decrypts(key: [u8; 16], plain: [u8; 16], cipher: [u8; 16]) -> usize
     ensures { λ r. ⌜ r ≤ 1 ⌝ }
 {
-    one_if(blocks::block::equal(aes::decrypt_block(key, cipher), plain))
+    one_if(blocks::block::equal(aes_tables::decrypt_block(key, cipher), plain))
 }
 
 // ---- the state after round 5, where the two halves of the cipher meet
 
 fn from_plaintext(key: [u8; 16], block: [u8; 16]) -> [u8; 16] {
-    let sbox = &aes::sbox::SBOX;
-    let keys = aes::key::expand(key);
-    aes::forward::first_half(block, &keys, sbox)
+    let sbox = &aes_tables::sbox::SBOX;
+    let keys = aes_tables::key::expand(key);
+    aes_tables::forward::first_half(block, &keys, sbox)
 }
 
 fn from_ciphertext(key: [u8; 16], block: [u8; 16]) -> [u8; 16] {
-    let inv_sbox = &aes::inv_sbox::INV_SBOX;
-    let keys = aes::key::expand(key);
-    aes::backward::inv_second_half(block, &keys, inv_sbox)
+    let inv_sbox = &aes_tables::inv_sbox::INV_SBOX;
+    let keys = aes_tables::key::expand(key);
+    aes_tables::backward::inv_second_half(block, &keys, inv_sbox)
 }
 
 // The first half from the plaintext comes to a state.

@@ -72,7 +72,7 @@ fn word(keys: &[u8; 176], i: usize) -> u32
 
 pub fn key_expansion() -> usize {
     let words = &WORDS;
-    let keys = aes::key::expand(block(b"2b7e151628aed2a6abf7158809cf4f3c"));
+    let keys = aes_tables::key::expand(block(b"2b7e151628aed2a6abf7158809cf4f3c"));
     let mut agreed: usize = 0;
     for i in 0..44 {
         agreed += one_if(word(&keys, i) == words[i]);
@@ -127,8 +127,8 @@ fn entries(table: &[u8; 256], at: [u8; 5], printed: [u8; 5]) -> usize
 
 // The corners of the two tables, an entry inside, and the byte that the inverse takes to 0.
 pub fn tables() -> usize {
-    let sbox = &aes::sbox::SBOX;
-    let inv_sbox = &aes::inv_sbox::INV_SBOX;
+    let sbox = &aes_tables::sbox::SBOX;
+    let inv_sbox = &aes_tables::inv_sbox::INV_SBOX;
     let at = [0x00, 0x0f, 0xf0, 0xff, 0x53];
     let forwards = entries(sbox, at, [0x63, 0x76, 0x8c, 0x16, 0xed]);
     let inv_at = [0x00, 0x0f, 0xf0, 0xff, 0x63];

@@ -95,8 +95,8 @@ fn open_text(key: &[u8], sealed: &[u8], out: &mut [u8]) -> [u8; 16]
     requires { ⌜ length (now sealed) - 32 ≤ length (now out) ⌝ }
     ensures { λ t. ⌜ TextOpened (now (key .entry)) (now (sealed .entry)) (length (now (out .entry))) (now (out .exit)) t ⌝ }
 {
-    let sbox = &aes::sbox::SBOX;
-    let inv_sbox = &aes::inv_sbox::INV_SBOX;
+    let sbox = &aes_tables::sbox::SBOX;
+    let inv_sbox = &aes_tables::inv_sbox::INV_SBOX;
     let stop = sealed.len() - 16;
     let p = crate::prepare::prepare(key, &sealed[..16]);
     let keys = p.keys;

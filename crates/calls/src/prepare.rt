@@ -18,10 +18,10 @@ pub fn prepare(key: &[u8], iv: &[u8]) -> Prepared
     requires { ⌜ length (now iv) ≡ 16 ⌝ }
     ensures { λ p. ⌜ Prepares (now (key .entry)) (now (iv .entry)) (p .keys) (bytesOf (p .start)) ⌝ }
 {
-    let sbox = &aes::sbox::SBOX;
+    let sbox = &aes_tables::sbox::SBOX;
     let k = blocks::block::load(key, 0);
     let v = blocks::block::load(iv, 0);
-    let keys = aes::key::expand(k);
+    let keys = aes_tables::key::expand(k);
     let start = runs::mask::start_mask(v, &keys, sbox);
     Prepared { keys, start }
 }

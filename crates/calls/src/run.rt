@@ -73,7 +73,7 @@ fn seal_run_into(
 {
     let size = crate::text::laid_out_length(bytes, last);
     let count = (size / 16) as u32;
-    let sbox = &aes::sbox::SBOX;
+    let sbox = &aes_tables::sbox::SBOX;
     let p = crate::prepare::prepare(key, iv);
     let keys = p.keys;
     let start = p.start;
@@ -135,7 +135,7 @@ fn check_run_record(key: &[u8], iv: &[u8], first: u32, bytes: &[u8]) -> RunRecor
     requires { ⌜ length (now bytes) / 16 ≤ limit ⌝ }
     ensures { λ r. ⌜ r ≡ runRecord inWords aes ciphertext (now (key .entry)) (now (iv .entry)) first (blocksOf (now (bytes .entry))) ⌝ }
 {
-    let inv_sbox = &aes::inv_sbox::INV_SBOX;
+    let inv_sbox = &aes_tables::inv_sbox::INV_SBOX;
     let p = crate::prepare::prepare(key, iv);
     let keys = p.keys;
     let start = p.start;

@@ -45,7 +45,7 @@ fn seal_into(key: &[u8], iv: &[u8], message: &[u8], out: &mut [u8]) -> Written
     ensures answer { λ a. ⌜ a ≡ writtenGiven (length (now (message .entry)) / 16 * 16 + 48) ⌝ }
     ensures output { λ _. ⌜ now (out .exit) ≡ sealedRecord aes (now (key .entry)) (now (iv .entry)) (now (message .entry)) ++ zeros (length (now (out .entry)) - (length (now (message .entry)) / 16 * 16 + 48)) ⌝ }
 {
-    let sbox = &aes::sbox::SBOX;
+    let sbox = &aes_tables::sbox::SBOX;
     let p = crate::prepare::prepare(key, iv);
     let keys = p.keys;
     let start = p.start;

@@ -7,7 +7,7 @@ ghost use lib.ListN.{length};
 ghost use Rattle.blocks.specs.Bytes.{zeros};
 ghost use Rattle.blocks.specs.Words.{bytesOf};
 ghost use Rattle.fips197.specs.Sbox.{sbox as sboxOf};
-ghost use Rattle.aes.specs.Table.{Tabulates};
+ghost use Rattle.aes_tables.specs.Table.{Tabulates};
 ghost use Rattle.mode.specs.Mode.{plaintext, zeroBlock, blocksOf, pass};
 ghost use Rattle.mode.specs.Aes.{aes};
 ghost use Rattle.runs.specs.Run.{keyOf, Expanded};

@@ -3,7 +3,7 @@ use blocks::words::Words;
 ghost use mathlib.Core.Path.{_≡_};
 ghost use Rattle.blocks.specs.Words.{bytesOf};
 ghost use Rattle.fips197.specs.Sbox.{sbox as sboxOf};
-ghost use Rattle.aes.specs.Table.{Tabulates};
+ghost use Rattle.aes_tables.specs.Table.{Tabulates};
 ghost use Rattle.mode.specs.Mode.{startMask, tagFrom};
 ghost use Rattle.mode.specs.Aes.{aes};
 ghost use Rattle.runs.specs.Run.{keyOf, Expanded};

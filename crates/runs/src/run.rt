@@ -9,7 +9,7 @@ ghost use Rattle.blocks.specs.Bytes.{xorBytes};
 ghost use Rattle.blocks.specs.Gf128.{timesX};
 ghost use Rattle.blocks.specs.Words.{bytesOf};
 ghost use Rattle.fips197.specs.Sbox.{sbox as sboxOf, invSbox};
-ghost use Rattle.aes.specs.Table.{Tabulates};
+ghost use Rattle.aes_tables.specs.Table.{Tabulates};
 ghost use Rattle.runs.specs.Masked.{maskAt};
 ghost use Rattle.runs.specs.Run.{keyOf, Expanded, Room, openedBlock, SealedInPlace, OpenedInto};
 
@@ -46,9 +46,9 @@ pub fn seal_blocks(mask: Words, keys: &[u8; 176], sbox: &[u8; 256], text: &mut [
         crate::masked::lay_upper(&mut masks, i + 1, next.high);
         let at = i * 16;
         let masked = crate::masked::load(text, at, &masks, i);
-        let middle = aes::forward::first_half(masked, keys, sbox);
+        let middle = aes_tables::forward::first_half(masked, keys, sbox);
         crate::masked::lay_lower(&mut masks, i + 1, next.low);
-        let whole = aes::forward::second_half(middle, keys, sbox);
+        let whole = aes_tables::forward::second_half(middle, keys, sbox);
         crate::masked::store(text, at, whole, &masks, i);
         let next_p = take_up(p, middle);
         p = next_p;
@@ -84,7 +84,7 @@ fn write_opened(
     if !write {
         return;
     }
-    let whole = aes::backward::inv_first_half(middle, keys, inv_sbox);
+    let whole = aes_tables::backward::inv_first_half(middle, keys, inv_sbox);
     crate::masked::store(out, i * 16, whole, masks, i);
 }
 
@@ -114,7 +114,7 @@ pub fn open_blocks(
     while i < n {
         crate::masked::lay_upper(&mut masks, i + 1, next.high);
         let masked = crate::masked::load(text, i * 16, &masks, i);
-        let middle = aes::backward::inv_second_half(masked, keys, inv_sbox);
+        let middle = aes_tables::backward::inv_second_half(masked, keys, inv_sbox);
         crate::masked::lay_lower(&mut masks, i + 1, next.low);
         write_opened(write, middle, keys, inv_sbox, &masks, i, out);
         let next_p = take_up(p, middle);

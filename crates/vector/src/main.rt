@@ -28,8 +28,8 @@ fn print_line(label: &[u8], block: [u8; 16]) {
 }
 
 fn start_mask(key: [u8; 16], iv: [u8; 16]) -> Words {
-    let sbox = &aes::sbox::SBOX;
-    let keys = aes::key::expand(key);
+    let sbox = &aes_tables::sbox::SBOX;
+    let keys = aes_tables::key::expand(key);
     runs::mask::start_mask(iv, &keys, sbox)
 }
 

@@ -3,7 +3,7 @@ use borrow.Author.Needs.{needs}
 use native.Mathlib.Omega.{arith}
 use lib.ListN.{length}
 use Rattle.fips197.specs.Aes128.{decrypt}
-use Rattle.aes.proofs.Lookup.{invSbox-table}
+use Rattle.aes_tables.proofs.Lookup.{invSbox-table}
 use Rattle.aes_blocks.proofs.Given.{refused-each, schedule, fits, given-each}
 use Rattle.aes_blocks.proofs.aes_blocks_decrypt.Statement.{statement}
 use Rattle.aes_blocks.proofs.aes_blocks_decrypt.Tie as tie

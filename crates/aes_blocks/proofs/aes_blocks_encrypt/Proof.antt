@@ -3,7 +3,7 @@ use borrow.Author.Needs.{needs}
 use native.Mathlib.Omega.{arith}
 use lib.ListN.{length}
 use Rattle.fips197.specs.Aes128.{encrypt}
-use Rattle.aes.proofs.Lookup.{sbox-table}
+use Rattle.aes_tables.proofs.Lookup.{sbox-table}
 use Rattle.aes_blocks.proofs.Given.{refused-each, schedule, fits, given-each}
 use Rattle.aes_blocks.proofs.aes_blocks_encrypt.Statement.{statement}
 use Rattle.aes_blocks.proofs.aes_blocks_encrypt.Tie as tie

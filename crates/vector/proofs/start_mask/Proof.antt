@@ -1,6 +1,6 @@
 -- The table that is lent is that of the S-box, and the schedule is that of the key.
 use borrow.Author.Needs.{needs}
-use Rattle.aes.proofs.Lookup.{sbox-table}
+use Rattle.aes_tables.proofs.Lookup.{sbox-table}
 use Rattle.runs.proofs.Halves.{expanded}
 use Rattle.vector.proofs.start_mask.Statement.{statement}
 use Rattle.vector.proofs.start_mask.Tie as tie

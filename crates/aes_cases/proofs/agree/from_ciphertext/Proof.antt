@@ -1,6 +1,6 @@
 -- The table that is lent is that of the inverse S-box.
 use borrow.Author.Needs.{needs}
-use Rattle.aes.proofs.Lookup.{invSbox-table}
+use Rattle.aes_tables.proofs.Lookup.{invSbox-table}
 use Rattle.aes_cases.proofs.agree.from_ciphertext.Statement.{statement}
 use Rattle.aes_cases.proofs.agree.from_ciphertext.Tie as tie
 

@@ -1,6 +1,6 @@
 -- The table that is lent is that of the S-box.
 use borrow.Author.Needs.{needs}
-use Rattle.aes.proofs.Lookup.{sbox-table}
+use Rattle.aes_tables.proofs.Lookup.{sbox-table}
 use Rattle.aes_cases.proofs.agree.from_plaintext.Statement.{statement}
 use Rattle.aes_cases.proofs.agree.from_plaintext.Tie as tie
 

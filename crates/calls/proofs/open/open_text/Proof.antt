@@ -13,7 +13,7 @@ use Rattle.mode.specs.Mode.{Pass, blocksOf, startMask, unbroken, tagFrom, unbro
 use Rattle.mode.specs.Aes.{aes}
 use Rattle.mode.specs.Calls.{plaintextOf}
 use Rattle.mode.proofs.Demand3.{cipher-length}
-use Rattle.aes.proofs.Lookup.{sbox-table, invSbox-table}
+use Rattle.aes_tables.proofs.Lookup.{sbox-table, invSbox-table}
 use Rattle.runs.specs.Run.{keyOf, opening}
 use Rattle.calls.proofs.Keys.{schedule, same-key}
 use Rattle.calls.proofs.open.open_text.Statement.{statement}

@@ -6,7 +6,7 @@ use lib.Seq.{take-all}
 use Rattle.fips197.specs.KeyExpansion.{keyExpansion}
 use Rattle.mode.specs.Mode.{startMask}
 use Rattle.mode.specs.Aes.{aes}
-use Rattle.aes.proofs.Lookup.{sbox-table}
+use Rattle.aes_tables.proofs.Lookup.{sbox-table}
 use Rattle.runs.specs.Run.{keyOf, Expanded}
 use Rattle.runs.proofs.Halves.{expanded, key-front}
 use Rattle.calls.proofs.prepare.prepare.Statement.{statement}

@@ -8,7 +8,7 @@ use Rattle.blocks.specs.Words.{bytesOf}
 use Rattle.mode.specs.Mode.{tagFrom}
 use Rattle.mode.specs.Aes.{aes}
 use Rattle.mode.specs.Calls.{closingTag}
-use Rattle.aes.proofs.Lookup.{sbox-table}
+use Rattle.aes_tables.proofs.Lookup.{sbox-table}
 use Rattle.calls.proofs.Keys.{schedule, same-key}
 use Rattle.calls.proofs.record.closing_tag.Statement.{statement}
 use Rattle.calls.proofs.record.closing_tag.Tie as tie

@@ -11,7 +11,7 @@ use Rattle.mode.specs.Aes.{aes}
 use Rattle.mode.specs.Calls.{passFrom, runRecord}
 use Rattle.mode.proofs.Blocks.{count-middle}
 use Rattle.mode.proofs.Segments.{not-both}
-use Rattle.aes.proofs.Lookup.{invSbox-table}
+use Rattle.aes_tables.proofs.Lookup.{invSbox-table}
 use Rattle.runs.specs.Run.{opening}
 use Rattle.calls.proofs.Keys.{schedule, same-key}
 use Rattle.calls.proofs.run.check_run_record.Statement.{statement}

@@ -12,7 +12,7 @@ use Rattle.blocks.proofs.Bridge.{proper-by, words-of}
 use Rattle.mode.specs.Mode.{Pass, plaintext, zeroBlock, blocksOf, pass}
 use Rattle.mode.specs.Aes.{aes}
 use Rattle.mode.specs.Calls.{blocksOfRun, passFrom, runRecord}
-use Rattle.aes.proofs.Lookup.{sbox-table}
+use Rattle.aes_tables.proofs.Lookup.{sbox-table}
 use Rattle.runs.specs.Run.{keyOf}
 use Rattle.calls.specs.Layout.{kindOf, laidOut, laidOutLength}
 use Rattle.calls.proofs.LaidOut.{blocks-laidOut, count-laidOut}

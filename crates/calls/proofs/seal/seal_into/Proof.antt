@@ -15,7 +15,7 @@ use Rattle.mode.specs.Aes.{aes}
 use Rattle.mode.proofs.Aes.{aes-lawful}
 use Rattle.mode.proofs.Blocks.{long-blocks, length-padded, count-last}
 use Rattle.mode.proofs.SealedLength.{unbroken-output-long}
-use Rattle.aes.proofs.Lookup.{sbox-table}
+use Rattle.aes_tables.proofs.Lookup.{sbox-table}
 use Rattle.runs.specs.Run.{keyOf}
 use Rattle.calls.specs.Layout.{laidOut, laidOutLength}
 use Rattle.blocks.proofs.Zeros.{length-zeros}

@@ -1,0 +1,52 @@
+-- A loop that writes to the front of a list, in parts of a width: after i parts, these and the rest of what there was.
+use mathlib.Core.Path.{_≡_, refl, sym, ap, ap₂, _∙_}
+use mathlib.Core.List.{List, [], _++_, append-assoc}
+use Prim.Native.Nat.{ℕ, zero, suc, _+_, _*_, _≤_, _<_}
+use native.Mathlib.Omega.{arith}
+use native.Mathlib.Numerals.{add-one}
+use lib.ListN.{length, getD, take, drop, length-append, length-drop}
+use lib.Seq.{take-at, drop-at, drop-drop}
+use Rattle.blocks.specs.Gf128.{lowBytes}
+use Rattle.blocks.specs.Words.{bytesOf}
+use Rattle.groups.specs.Group.{blockAt, inTurn}
+
+module _ (w : ℕ) (b : ℕ → List ℕ) where
+  pub length-inTurn : (n : ℕ) → ((j : ℕ) → j < n → length (b j) ≡ w) → length (inTurn n b) ≡ n * w
+  unfolding inTurn
+  length-inTurn zero h = omega arith
+  length-inTurn (suc n) h =
+      length-append (inTurn n b) (b n) ∙ ap₂ (λ (x y : ℕ). x + y) (length-inTurn n (λ j l. h j (omega (arith, l)))) (h n (omega arith)) ∙ omega arith
+
+  -- after i parts
+  abbrev pub Front : ℕ → List ℕ → List ℕ → Type 0
+  Front i old now = now ≡ inTurn i b ++ drop (i * w) old
+
+  pub front-begins : (old : List ℕ) → Front 0 old old
+  unfolding inTurn
+  front-begins old = ap (λ (k : ℕ). drop k old) (let e : 0 ≡ 0 * w = omega arith in e)
+
+  module _ (i : ℕ) (old now : List ℕ) (parts : (j : ℕ) → j < i → length (b j) ≡ w) (is : Front i old now) where
+    pub front-rest : drop (i * w) now ≡ drop (i * w) old
+    front-rest = ap (drop (i * w)) is ∙ drop-at (inTurn i b) (drop (i * w) old) (i * w) (length-inTurn i parts)
+
+    pub front-long : i * w ≤ length old → length now ≡ length old
+    front-long h = ap length is ∙ length-append (inTurn i b) (drop (i * w) old) ∙ omega (arith, length-inTurn i parts, length-drop (i * w) old)
+
+    pub front-turn : (y new : List ℕ) → y ≡ b i → new ≡ take (i * w) now ++ y ++ drop (i * w + w) now → Front (i + 1) old new
+    unfolding inTurn
+    front-turn y new ey en =
+        en
+        ∙ ap₂ (λ (p q : List ℕ). p ++ y ++ q) (ap (take (i * w)) is ∙ take-at (inTurn i b) (drop (i * w) old) (i * w) (length-inTurn i parts))
+        (sym (drop-drop w (i * w) now) ∙ ap (drop w) front-rest ∙ drop-drop w (i * w) old)
+        ∙ ap₂ (λ (z : List ℕ) (k : ℕ). inTurn i b ++ z ++ drop k old) ey (let e : i * w + w ≡ (i + 1) * w = omega arith in e)
+        ∙ ap (λ (k : ℕ). inTurn k b ++ drop ((i + 1) * w) old) (sym (add-one i))
+
+-- words of eight bytes, two to a block
+pub two-words : (g : List ℕ) (n : ℕ) → inTurn (n * 2) (λ k. lowBytes 8 (getD g k 0)) ≡ inTurn n (blockAt g)
+unfolding inTurn blockAt bytesOf
+two-words g zero = refl
+two-words g (suc n) =
+    ap (λ (k : ℕ). inTurn k (λ k. lowBytes 8 (getD g k 0))) (let e : suc n * 2 ≡ suc (suc (n * 2)) = omega arith in e)
+    ∙ append-assoc (inTurn (n * 2) (λ k. lowBytes 8 (getD g k 0))) (lowBytes 8 (getD g (n * 2) 0)) (lowBytes 8 (getD g (suc (n * 2)) 0))
+    ∙ ap₂ (λ (x y : List ℕ). x ++ (lowBytes 8 (getD g (n * 2) 0) ++ y)) (two-words g n)
+    (ap (λ (k : ℕ). lowBytes 8 (getD g k 0)) (sym (add-one (n * 2))))

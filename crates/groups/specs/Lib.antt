@@ -1,0 +1,2 @@
+-- Group: blocks by their number, in words or in bytes.
+pub mod Group
