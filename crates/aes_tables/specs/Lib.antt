@@ -1,2 +1,3 @@
--- What this engine's functions ask of the tables that they are lent.
+-- What this engine's functions ask of the tables that they are lent; its halves.
 pub mod Table
+pub mod Half

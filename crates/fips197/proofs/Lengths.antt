@@ -8,6 +8,7 @@ use lib.Dec.{lit<}
 use lib.ListN.{length, getD, take, drop, length-take, length-drop}
 use lib.Seq.{slice}
 use Rattle.blocks.specs.Bytes.{xorBytes, firstBlocks}
+use Rattle.blocks.proofs.Chunks.{length-blocks}
 use Rattle.blocks.proofs.XorBytes.{length-xor}
 use Rattle.fips197.specs.State.{subBytes, invSubBytes, shiftRows, mixColumns}
 use Rattle.fips197.specs.KeyExpansion.{words, keyExpansion, roundKeys}
@@ -39,7 +40,7 @@ long-at i [] h l = absurd (not-suc-le-zero l)
 long-at zero (b ∷ bs) h l = h .0
 long-at (suc i) (b ∷ bs) h l = long-at i bs (h .1) (le-of-suc-le-suc l)
 
-long-firstBlocks : (n : ℕ) (a : List ℕ) → n * 16 ≤ length a → AllLong (firstBlocks n a)
+pub long-firstBlocks : (n : ℕ) (a : List ℕ) → n * 16 ≤ length a → AllLong (firstBlocks n a)
 unfolding firstBlocks
 long-firstBlocks zero a l = tt
 long-firstBlocks (suc n) a l =
@@ -61,32 +62,52 @@ unfolding invRounds invRound invSubBytes
 length-invRounds [] s e = e
 length-invRounds (k ∷ ks) s e = refl
 
--- ---- the halves of AES-128
+-- ---- the halves, the first of h rounds, of a cipher of nr
+
+module _ (h nr : ℕ) (ks : List (List ℕ)) (long : AllLong ks) (enough : nr < length ks) where
+  pub length-firstHalf : (s : List ℕ) → length s ≡ 16 → length (C.firstHalf h ks s) ≡ 16
+  unfolding C.firstHalf
+  length-firstHalf s e =
+      length-rounds (slice 1 (suc h) ks) (xorBytes s (getD ks 0 [])) (long-slice 1 (suc h) ks long)
+      (length-add s (getD ks 0 []) e (long-at 0 ks long (omega (arith, enough))))
+
+  pub length-secondHalf : (s : List ℕ) → length (C.secondHalf h nr ks s) ≡ 16
+  unfolding C.secondHalf lastRound shiftRows
+  length-secondHalf s = length-add (shiftRows (subBytes (rounds (slice (suc h) nr ks) s))) (getD ks nr []) refl (long-at nr ks long enough)
+
+  pub length-invFirstHalf : (s : List ℕ) → length s ≡ 16 → length (C.invFirstHalf h ks s) ≡ 16
+  unfolding C.invFirstHalf
+  length-invFirstHalf s e =
+      length-add (invRounds (slice 1 (suc h) ks) s) (getD ks 0 []) (length-invRounds (slice 1 (suc h) ks) s e)
+      (long-at 0 ks long (omega (arith, enough)))
+
+pub length-invSecondHalf : (h nr : ℕ) (ks : List (List ℕ)) (s : List ℕ) → length (C.invSecondHalf h nr ks s) ≡ 16
+unfolding C.invSecondHalf invLastRound invSubBytes
+length-invSecondHalf h nr ks s = length-invRounds (slice (suc h) nr ks) (invLastRound s (getD ks nr [])) refl
+
+-- ---- those of AES-128
 
 module _ (key : List ℕ) (hk : length key ≡ 16) where
   long-keys : AllLong (keys key)
   unfolding keys roundKeys keyExpansion
   long-keys = long-firstBlocks 11 (words 4 key 40) (omega (arith, length-words 4 key 40 hk))
 
-  key-at : (i : ℕ) → i < 11 → length (getD (keys key) i []) ≡ 16
-  unfolding keys roundKeys firstBlocks
-  key-at i h = long-at i (keys key) long-keys h
+  eleven : 10 < length (keys key)
+  unfolding keys roundKeys
+  eleven = rw (length-blocks 11 (keyExpansion 4 10 key)) (lit< tt)
 
   pub length-first : (s : List ℕ) → length s ≡ 16 → length (firstHalf key s) ≡ 16
-  unfolding firstHalf C.firstHalf
-  length-first s e =
-      length-rounds (slice 1 6 (keys key)) (xorBytes s (getD (keys key) 0 [])) (long-slice 1 6 (keys key) long-keys)
-      (length-add s (getD (keys key) 0 []) e (key-at 0 (lit< tt)))
+  unfolding firstHalf
+  length-first = length-firstHalf 5 10 (keys key) long-keys eleven
 
   pub length-second : (s : List ℕ) → length s ≡ 16 → length (secondHalf key s) ≡ 16
-  unfolding secondHalf C.secondHalf lastRound shiftRows
-  length-second s e = length-add (shiftRows (subBytes (rounds (slice 6 10 (keys key)) s))) (getD (keys key) 10 []) refl (key-at 10 (lit< tt))
+  unfolding secondHalf
+  length-second s e = length-secondHalf 5 10 (keys key) long-keys eleven s
 
   pub length-invFirst : (s : List ℕ) → length s ≡ 16 → length (invFirstHalf key s) ≡ 16
-  unfolding invFirstHalf C.invFirstHalf
-  length-invFirst s e =
-      length-add (invRounds (slice 1 6 (keys key)) s) (getD (keys key) 0 []) (length-invRounds (slice 1 6 (keys key)) s e) (key-at 0 (lit< tt))
+  unfolding invFirstHalf
+  length-invFirst = length-invFirstHalf 5 10 (keys key) long-keys eleven
 
   pub length-invSecond : (s : List ℕ) → length s ≡ 16 → length (invSecondHalf key s) ≡ 16
-  unfolding invSecondHalf C.invSecondHalf invLastRound invSubBytes
-  length-invSecond s e = length-invRounds (slice 6 10 (keys key)) (invLastRound s (getD (keys key) 10 [])) refl
+  unfolding invSecondHalf
+  length-invSecond s e = length-invSecondHalf 5 10 (keys key) s

@@ -1,14 +1,18 @@
 -- A loop that writes to the front of a list, in parts of a width: after i parts, these and the rest of what there was.
 use mathlib.Core.Path.{_≡_, refl, sym, ap, ap₂, _∙_}
+use mathlib.Core.Bool.{Bool, true, false}
 use mathlib.Core.List.{List, [], _++_, append-assoc}
 use Prim.Native.Nat.{ℕ, zero, suc, _+_, _*_, _≤_, _<_}
 use native.Mathlib.Omega.{arith}
 use native.Mathlib.Numerals.{add-one}
 use lib.ListN.{length, getD, take, drop, length-append, length-drop}
 use lib.Seq.{take-at, drop-at, drop-drop}
+use lib.Dec.{eqb}
+use borrow.Author.Tests.{eqb-true, eqb-false}
 use Rattle.blocks.specs.Gf128.{lowBytes}
 use Rattle.blocks.specs.Words.{bytesOf}
-use Rattle.groups.specs.Group.{blockAt, inTurn}
+use Rattle.blocks.proofs.Bridge.{block-bytesOf}
+use Rattle.groups.specs.Group.{blockAt, blockOf, inTurn, inFront}
 
 module _ (w : ℕ) (b : ℕ → List ℕ) where
   pub length-inTurn : (n : ℕ) → ((j : ℕ) → j < n → length (b j) ≡ w) → length (inTurn n b) ≡ n * w
@@ -41,6 +45,10 @@ module _ (w : ℕ) (b : ℕ → List ℕ) where
         ∙ ap₂ (λ (z : List ℕ) (k : ℕ). inTurn i b ++ z ++ drop k old) ey (let e : i * w + w ≡ (i + 1) * w = omega arith in e)
         ∙ ap (λ (k : ℕ). inTurn k b ++ drop ((i + 1) * w) old) (sym (add-one i))
 
+  -- at the end
+  pub front-ends : (i n : ℕ) (old now : List ℕ) → i ≤ n → n ≤ i → Front i old now → Front n old now
+  front-ends i n old now h l is = is ∙ ap (λ (k : ℕ). inTurn k b ++ drop (k * w) old) (let e : i ≡ n = omega (arith, h, l) in e)
+
 -- words of eight bytes, two to a block
 pub two-words : (g : List ℕ) (n : ℕ) → inTurn (n * 2) (λ k. lowBytes 8 (getD g k 0)) ≡ inTurn n (blockAt g)
 unfolding inTurn blockAt bytesOf
@@ -50,3 +58,29 @@ two-words g (suc n) =
     ∙ append-assoc (inTurn (n * 2) (λ k. lowBytes 8 (getD g k 0))) (lowBytes 8 (getD g (n * 2) 0)) (lowBytes 8 (getD g (suc (n * 2)) 0))
     ∙ ap₂ (λ (x y : List ℕ). x ++ (lowBytes 8 (getD g (n * 2) 0) ++ y)) (two-words g n)
     (ap (λ (k : ℕ). lowBytes 8 (getD g k 0)) (sym (add-one (n * 2))))
+
+-- ---- blocks read back
+
+pub length-blockAt : (g : List ℕ) (i : ℕ) → length (blockAt g i) ≡ 16
+unfolding blockAt
+length-blockAt g i = block-bytesOf _ .long
+
+block-inTurn : (n : ℕ) (b : ℕ → List ℕ) (rest : List ℕ) → ((j : ℕ) → j < n → length (b j) ≡ 16) → (i : ℕ) → i < n → blockOf (inTurn n b ++ rest) i ≡ b i
+unfolding inTurn blockOf
+block-inTurn zero b rest long i h = absurd (omega (arith, h))
+block-inTurn (suc n) b rest long i h =
+    ap (λ (x : List ℕ). blockOf x i) (append-assoc (inTurn n b) (b n) rest)
+    ∙ by (eqb i n) refl (λ l. block-inTurn n b (b n ++ rest) (λ j l. long j (omega (arith, l))) i l)
+  where
+    by : (t : Bool) → eqb i n ≡ t → (i < n → blockOf (inTurn n b ++ (b n ++ rest)) i ≡ b i) → blockOf (inTurn n b ++ (b n ++ rest)) i ≡ b i
+    by true e before =
+        let is : i ≡ n = eqb-true i n e in
+        ap (λ (k : ℕ). take 16 (drop (k * 16) (inTurn n b ++ (b n ++ rest)))) is
+        ∙ ap (take 16) (drop-at (inTurn n b) (b n ++ rest) (n * 16) (length-inTurn 16 b n (λ j l. long j (omega (arith, l)))))
+        ∙ take-at (b n) rest 16 (long n (omega arith)) ∙ ap b (sym is)
+    by false e before = let d : i ≡ n → ⊥ = eqb-false i n e in before (omega (arith, h, d))
+
+-- what was written to the front
+pub front-blocks : (n : ℕ) (b : ℕ → List ℕ) (old new : List ℕ) → ((j : ℕ) → j < n → length (b j) ≡ 16) → new ≡ inFront n b old
+    → (i : ℕ) → i < n → blockOf new i ≡ b i
+front-blocks n b old new long is i h = ap (λ (x : List ℕ). blockOf x i) is ∙ block-inTurn n b (drop (n * 16) old) long i h

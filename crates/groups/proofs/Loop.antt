@@ -61,3 +61,8 @@ turn b i old now new y d p e =
 
 pub ends : (b : ℕ → List ℕ) (i n : ℕ) (old new : List ℕ) → During i b old new → n ≤ i → Holds n b new
 ends b i n old new d h = record { long = d .done .long; at = λ j l. d .done .at j (omega (arith, l)) }
+
+-- ---- the same blocks, said otherwise
+
+pub holds-as : (n : ℕ) (b b′ : ℕ → List ℕ) (g : List ℕ) → Holds n b g → ((i : ℕ) → i < n → b i ≡ b′ i) → Holds n b′ g
+holds-as n b b′ g h e = record { long = h .long; at = λ i l. h .at i l ∙ e i l }

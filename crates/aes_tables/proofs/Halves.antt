@@ -1,0 +1,48 @@
+-- The halves of this engine: what each asks and leaves, whichever it is.
+use mathlib.Core.Path.{_≡_, sym, ap, ap₂, subst, _∙_}
+use mathlib.Core.List.{List, _++_}
+use Prim.Native.Nat.{ℕ, _+_, _*_, _≤_, _<_}
+use native.Mathlib.Omega.{arith}
+use lib.Dec.{lit<}
+use lib.ListN.{length, take, drop}
+use Rattle.blocks.specs.Bytes.{firstBlocks}
+use Rattle.blocks.proofs.Chunks.{length-blocks}
+use Rattle.groups.specs.Group.{blockOf, inFront}
+use Rattle.groups.proofs.Front.{front-blocks}
+use Rattle.fips197.proofs.Lengths.{AllLong, long-firstBlocks, length-firstHalf, length-secondHalf, length-invFirstHalf, length-invSecondHalf}
+use Rattle.aes_tables.specs.Half.{halfOf, tabled, TableOf}
+use Rattle.aes_tables.specs.declared.group.Half.{Half}
+use Rattle.aes_tables.specs.declared.group.Half.the-variants.{First, Second, InvFirst, InvSecond}
+
+pub table-as : (which half : Half) (table : List ℕ) → which ≡ half → TableOf which table → TableOf half table
+table-as which half table e t = subst (λ (h : Half). TableOf h table) e t
+
+-- a block replaced by its half
+pub put-half : (which half : Half) (ks : List (List ℕ)) (at : ℕ) (old new block after : List ℕ) → which ≡ half → block ≡ take 16 (drop at old)
+    → after ≡ halfOf half ks block → new ≡ take at old ++ after ++ drop (at + 16) old
+    → new ≡ take at old ++ halfOf which ks (take 16 (drop at old)) ++ drop (at + 16) old
+put-half which half ks at old new block after eh eb ea en =
+    en ∙ ap (λ (x : List ℕ). take at old ++ x ++ drop (at + 16) old) (ea ∙ ap₂ (λ (h : Half) (b : List ℕ). halfOf h ks b) (sym eh) eb)
+
+-- ---- lengths
+
+module _ (keys : List ℕ) (long : length keys ≡ 176) where
+  pub eleven : 10 < length (firstBlocks 11 keys)
+  eleven = rw (length-blocks 11 keys) (lit< tt)
+
+  all-long : AllLong (firstBlocks 11 keys)
+  all-long = long-firstBlocks 11 keys (omega (arith, long))
+
+  pub length-half : (half : Half) (s : List ℕ) → length s ≡ 16 → length (halfOf half (firstBlocks 11 keys) s) ≡ 16
+  unfolding halfOf
+  length-half First s e = length-firstHalf 5 10 (firstBlocks 11 keys) all-long eleven s e
+  length-half Second s e = length-secondHalf 5 10 (firstBlocks 11 keys) all-long eleven s
+  length-half InvFirst s e = length-invFirstHalf 5 10 (firstBlocks 11 keys) all-long eleven s e
+  length-half InvSecond s e = length-invSecondHalf 5 10 (firstBlocks 11 keys) s
+
+  -- each block of a text taken through a half
+  pub halved : (half : Half) (n : ℕ) (b : ℕ → List ℕ) (old new : List ℕ) → ((i : ℕ) → length (b i) ≡ 16) → ((i : ℕ) → i < n → blockOf old i ≡ b i)
+      → new ≡ inFront n (λ i. halfOf half (firstBlocks 11 keys) (blockOf old i)) old → (i : ℕ) → i < n → blockOf new i ≡ halfOf half (firstBlocks 11 keys) (b i)
+  halved half n b old new lb eb is i h =
+      front-blocks n (λ i. halfOf half (firstBlocks 11 keys) (blockOf old i)) old new (λ j l. length-half half (blockOf old j) (ap length (eb j l) ∙ lb j)) is i h
+      ∙ ap (halfOf half (firstBlocks 11 keys)) (eb i h)
