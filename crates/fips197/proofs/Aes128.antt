@@ -18,7 +18,7 @@ eleven : (key : List ℕ) → 10 < length (keys key)
 unfolding keys roundKeys
 eleven key = rw (length-blocks 11 (keyExpansion 4 10 key)) (lit< tt)
 
--- ---- what the code works out, with an expanded key, is the halves under that key
+-- ---- what the code works out, with an expanded key, is the cipher and its halves under that key
 
 module _ (key w : List ℕ) (e : w ≡ keyExpansion 4 10 key) where
   round-keys : firstBlocks 11 w ≡ keys key
@@ -40,6 +40,14 @@ module _ (key w : List ℕ) (e : w ≡ keyExpansion 4 10 key) where
   pub invSecond-by : (s : List ℕ) → C.invSecondHalf 5 10 (firstBlocks 11 w) s ≡ invSecondHalf key s
   unfolding invSecondHalf
   invSecond-by s = ap (λ (ks : List (List ℕ)). C.invSecondHalf 5 10 ks s) round-keys
+
+  pub encrypt-by : (s : List ℕ) → C.cipher 10 (firstBlocks 11 w) s ≡ encrypt key s
+  unfolding encrypt
+  encrypt-by s = ap (λ (ks : List (List ℕ)). C.cipher 10 ks s) round-keys
+
+  pub decrypt-by : (s : List ℕ) → C.invCipher 10 (firstBlocks 11 w) s ≡ decrypt key s
+  unfolding decrypt
+  decrypt-by s = ap (λ (ks : List (List ℕ)). C.invCipher 10 ks s) round-keys
 
 -- ---- the halves are the cipher
 

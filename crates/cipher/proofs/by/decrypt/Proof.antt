@@ -1,0 +1,14 @@
+-- What the engine gives, under the key in front of its schedule.
+use borrow.Author.Needs.{needs}
+use Rattle.cipher.proofs.Engine.{deciphered}
+use Rattle.cipher.proofs.by.decrypt.Statement.{statement}
+use Rattle.cipher.proofs.by.decrypt.Tie as tie
+
+decrypt-requires : tie.Need-decrypt-requires
+decrypt-requires c κs = search needs
+
+returns : tie.Need-returns
+returns c = let s = c .before .before .before in deciphered (s .args .keys .now) (s .pre .1 .1 .1) (s .args .n) _ _ _ (c .decrypt .ensures .0) (c .decrypt .ensures .1)
+
+pub decrypt-spec : {M : Type 1} → statement M
+decrypt-spec = tie.close (tie.spec decrypt-requires returns)

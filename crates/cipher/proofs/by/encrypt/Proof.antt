@@ -1,0 +1,14 @@
+-- What the engine gives, under the key in front of its schedule.
+use borrow.Author.Needs.{needs}
+use Rattle.cipher.proofs.Engine.{enciphered}
+use Rattle.cipher.proofs.by.encrypt.Statement.{statement}
+use Rattle.cipher.proofs.by.encrypt.Tie as tie
+
+encrypt-requires : tie.Need-encrypt-requires
+encrypt-requires c κs = search needs
+
+returns : tie.Need-returns
+returns c = let s = c .before .before .before in enciphered (s .args .keys .now) (s .pre .1 .1 .1) (s .args .n) _ _ _ (c .encrypt .ensures .0) (c .encrypt .ensures .1)
+
+pub encrypt-spec : {M : Type 1} → statement M
+encrypt-spec = tie.close (tie.spec encrypt-requires returns)
