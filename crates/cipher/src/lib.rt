@@ -25,6 +25,14 @@ pub fn expand(key: [u8; 16]) -> [u8; KEYS]
     by::expand(ENGINE, key)
 }
 
+// The key of a schedule.
+pub fn key_of(keys: &[u8; KEYS]) -> [u8; 16]
+    requires { ⌜ Expanded (now keys) ⌝ }
+    ensures { λ r. ⌜ r ≡ keyOf (now (keys .entry)) ⌝ }
+{
+    blocks::block::load(keys, 0)
+}
+
 // One block through the whole cipher.
 pub fn encrypt_block(block: [u8; 16], keys: &[u8; KEYS]) -> [u8; 16]
     requires { ⌜ Expanded (now keys) ⌝ }

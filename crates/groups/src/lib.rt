@@ -48,6 +48,20 @@ pub fn load(s: &[u8], n: usize, group: &mut [u64; WORDS])
     }
 }
 
+// The blocks of another group.
+pub fn copy(from: &[u64; WORDS], n: usize, group: &mut [u64; WORDS])
+    requires { ⌜ n ≤ 32 ⌝ }
+    requires { ⌜ length (now group) ≡ 64 ⌝ }
+    ensures { λ _. ⌜ Holds n (blockAt (now (from .entry))) (now (group .exit)) ⌝ }
+{
+    let mut i: usize = 0;
+    while i < n {
+        let w = get(from, i);
+        put(group, i, w);
+        i += 1;
+    }
+}
+
 // The exclusive or of each block with that of another group.
 pub fn xor(group: &mut [u64; WORDS], other: &[u64; WORDS], n: usize)
     requires { ⌜ n ≤ 32 ⌝ }

@@ -1,4 +1,3 @@
--- Walk: one loop law for sealing, opening and checking. Halves: the code's halves under a schedule are AES-128's under its key.
-pub mod Masks
+-- Walk: a run over blocks, one after another. Groups: what the functions on a group come to.
 pub mod Walk
-pub mod Halves
+pub mod Groups

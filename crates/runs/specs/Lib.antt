@@ -1,3 +1,4 @@
--- What the functions of this crate ask (Expanded) and give (SealedInPlace, OpenedInto); how masks lie in memory (Masked).
+-- What the functions of this crate give. Task: what is done with a block. Group: a group of blocks. Run: a run, by the mode's definitions.
+pub mod Task
+pub mod Group
 pub mod Run
-pub mod Masked

@@ -1,131 +1,151 @@
-// Document 01, step 2, over the blocks of a slice: each block is masked, goes through one half to the middletext and through the other
-// on, and is masked again; the pre-authenticator takes up the middletext, and the mask is multiplied by x. The mask of the next block is
-// kept beside that of this one, since it is laid out ahead (masked.rt).
+// Document 01, step 2, over the blocks of a slice, a group at a time: each block is masked, goes through one half to the middletext and
+// through the other on, and is masked again; the pre-authenticator takes up the middletext, and the mask is multiplied by x.
 use blocks::words::Words;
 ghost use mathlib.Core.Path.{_≡_};
-ghost use Prim.Native.Nat.{_+_, _*_};
+ghost use Prim.Native.Nat.{_+_, _*_, _/_, _≤_};
 ghost use lib.ListN.{length};
-ghost use Rattle.blocks.specs.Bytes.{xorBytes};
-ghost use Rattle.blocks.specs.Gf128.{timesX};
+ghost use Rattle.blocks.specs.Bytes.{firstBlocks};
 ghost use Rattle.blocks.specs.Words.{bytesOf};
-ghost use Rattle.fips197.specs.Sbox.{sbox as sboxOf, invSbox};
-ghost use Rattle.aes_tables.specs.Table.{Tabulates};
-ghost use Rattle.runs.specs.Masked.{maskAt};
-ghost use Rattle.runs.specs.Run.{keyOf, Expanded, Room, openedBlock, SealedInPlace, OpenedInto};
+ghost use Rattle.cipher.specs.Keys.{keyOf, Expanded};
+ghost use Rattle.mode.specs.Mode.{padded};
+ghost use Rattle.runs.specs.Task.{writes as writesOf};
+ghost use Rattle.runs.specs.Group.{Through, Stored, InGroup, Done};
+ghost use Rattle.runs.specs.Run.{ran, Ran, Room};
 
-// The mask after a run's last block, and the pre-authenticator of the run alone.
+// What is done with the blocks of a text: plaintext is sealed, ciphertext opened, or only checked.
+pub enum Task {
+    Seal,
+    Open,
+    Check,
+}
+
+// The mask after a run's last block, and the pre-authenticator.
 pub struct Chain {
     pub mask: Words,
     pub preauthenticator: Words,
 }
 
-// The pre-authenticator, multiplied by x, and a middletext added.
-fn take_up(preauthenticator: Words, middle: [u8; 16]) -> Words
-    ensures { λ r. ⌜ bytesOf r ≡ xorBytes (timesX (bytesOf preauthenticator)) middle ⌝ }
-{
-    let moved = blocks::gf128::times_x(preauthenticator);
-    let added = blocks::words::from_bytes(middle);
-    blocks::words::xor(moved, added)
-}
+// ---- a group
 
-// Seals the blocks of a slice in place.
-pub fn seal_blocks(mask: Words, keys: &[u8; 176], sbox: &[u8; 256], text: &mut [u8]) -> Chain
+// n masked blocks through the cipher, with their middletexts.
+fn through(
+    task: Task,
+    group: &mut [u64; groups::WORDS],
+    middle: &mut [u64; groups::WORDS],
+    n: usize,
+    keys: &[u8; cipher::KEYS],
+)
+    requires { ⌜ length (now group) ≡ 64 ⌝ }
+    requires { ⌜ length (now middle) ≡ 64 ⌝ }
+    requires { ⌜ n ≤ 32 ⌝ }
     requires { ⌜ Expanded (now keys) ⌝ }
-    requires { ⌜ Tabulates (now sbox) sboxOf ⌝ }
-    ensures { λ c. ⌜ SealedInPlace (now (keys .entry)) (bytesOf mask) (now (text .entry)) (now (text .exit)) (bytesOf (c .mask)) (bytesOf (c .preauthenticator)) ⌝ }
+    ensures { λ _. ⌜ Through task n (keyOf (now (keys .entry))) (now (group .entry)) (now (group .exit)) (now (middle .exit)) ⌝ }
 {
-    let n = text.len() / 16;
-    let mut m = mask;
-    let mut p = Words { high: 0, low: 0 };
-    let mut next = blocks::gf128::times_x(m);
-    let mut masks = [0u8; 32];
-    crate::masked::lay_upper(&mut masks, 0, m.high);
-    crate::masked::lay_lower(&mut masks, 0, m.low);
-    let mut i: usize = 0;
-    while i < n {
-        crate::masked::lay_upper(&mut masks, i + 1, next.high);
-        let at = i * 16;
-        let masked = crate::masked::load(text, at, &masks, i);
-        let middle = aes_tables::forward::first_half(masked, keys, sbox);
-        crate::masked::lay_lower(&mut masks, i + 1, next.low);
-        let whole = aes_tables::forward::second_half(middle, keys, sbox);
-        crate::masked::store(text, at, whole, &masks, i);
-        let next_p = take_up(p, middle);
-        p = next_p;
-        m = next;
-        let after = blocks::gf128::times_x(m);
-        next = after;
-        i += 1;
-    }
-    Chain {
-        mask: m,
-        preauthenticator: p,
+    match task {
+        Task::Seal => cipher::encrypt(group, middle, n, keys),
+        Task::Open => cipher::decrypt(group, middle, n, keys),
+        Task::Check => {
+            cipher::middletexts(group, n, keys);
+            groups::copy(group, n, middle);
+        }
     }
 }
 
-// ---- opening
+fn writes(task: Task) -> bool
+    ensures { λ b. ⌜ b ≡ writesOf task ⌝ }
+{
+    match task {
+        Task::Seal => true,
+        Task::Open => true,
+        Task::Check => false,
+    }
+}
 
-// The plaintext of block i, from its middletext, into an output; nothing where `write` is not set.
-fn write_opened(
-    write: bool,
-    middle: [u8; 16],
-    keys: &[u8; 176],
-    inv_sbox: &[u8; 256],
-    masks: &[u8],
-    i: usize,
+// The blocks of a group into an output at an offset, where the task writes.
+fn put(
+    task: Task,
+    group: &mut [u64; groups::WORDS],
+    masks: &[u64; groups::WORDS],
+    n: usize,
+    at: usize,
     out: &mut [u8],
 )
-    requires { ⌜ Expanded (now keys) ⌝ }
-    requires { ⌜ Tabulates (now «inv_sbox») invSbox ⌝ }
-    requires { ⌜ length (now masks) ≡ 32 ⌝ }
-    requires { ⌜ Room write ((i + 1) * 16) (length (now out)) ⌝ }
-    ensures { λ _. ⌜ now (out .exit) ≡ openedBlock write (keyOf (now (keys .entry))) middle (maskAt (now (masks .entry)) i) i (now (out .entry)) ⌝ }
+    requires { ⌜ length (now group) ≡ 64 ⌝ }
+    requires { ⌜ n ≤ 32 ⌝ }
+    requires { ⌜ Room (writesOf task) (at + n * 16) (length (now out)) ⌝ }
+    ensures { λ _. ⌜ Stored task n (now (group .entry)) (now (masks .entry)) at (now (out .entry)) (now (out .exit)) ⌝ }
 {
-    if !write {
-        return;
+    if writes(task) {
+        crate::group::store(group, masks, n, &mut out[at..]);
     }
-    let whole = aes_tables::backward::inv_first_half(middle, keys, inv_sbox);
-    crate::masked::store(out, i * 16, whole, masks, i);
 }
 
-// Goes through the blocks of a ciphertext, and where `write` is set puts the plaintext in front of an output. Opening writes, a check does
-// not.
-pub fn open_blocks(
-    mask: Words,
-    keys: &[u8; 176],
-    inv_sbox: &[u8; 256],
+// One group of a run: the first n blocks of a text, and an output at an offset.
+fn step(
+    task: Task,
+    start: Chain,
+    keys: &[u8; cipher::KEYS],
     text: &[u8],
-    write: bool,
+    n: usize,
+    at: usize,
     out: &mut [u8],
 ) -> Chain
     requires { ⌜ Expanded (now keys) ⌝ }
-    requires { ⌜ Tabulates (now «inv_sbox») invSbox ⌝ }
-    requires { ⌜ Room write (length (now text)) (length (now out)) ⌝ }
-    ensures { λ c. ⌜ OpenedInto write (now (keys .entry)) (bytesOf mask) (now (text .entry)) (now (out .entry)) (now (out .exit)) (bytesOf (c .mask)) (bytesOf (c .preauthenticator)) ⌝ }
+    requires { ⌜ n ≤ 32 ⌝ }
+    requires { ⌜ n ≤ length (now text) / 16 + 1 ⌝ }
+    requires { ⌜ Room (writesOf task) (at + n * 16) (length (now out)) ⌝ }
+    ensures { λ c. ⌜ Done task n (keyOf (now (keys .entry))) (padded (now (text .entry))) (bytesOf (start .mask)) (bytesOf (start .preauthenticator)) at (now (out .entry)) (now (out .exit)) (bytesOf (c .mask)) (bytesOf (c .preauthenticator)) ⌝ }
 {
-    let n = text.len() / 16;
-    let mut m = mask;
-    let mut p = Words { high: 0, low: 0 };
-    let mut next = blocks::gf128::times_x(m);
-    let mut masks = [0u8; 32];
-    crate::masked::lay_upper(&mut masks, 0, m.high);
-    crate::masked::lay_lower(&mut masks, 0, m.low);
-    let mut i: usize = 0;
-    while i < n {
-        crate::masked::lay_upper(&mut masks, i + 1, next.high);
-        let masked = crate::masked::load(text, i * 16, &masks, i);
-        let middle = aes_tables::backward::inv_second_half(masked, keys, inv_sbox);
-        crate::masked::lay_lower(&mut masks, i + 1, next.low);
-        write_opened(write, middle, keys, inv_sbox, &masks, i, out);
-        let next_p = take_up(p, middle);
-        p = next_p;
-        m = next;
-        let after = blocks::gf128::times_x(m);
-        next = after;
-        i += 1;
-    }
+    let mut group = [0u64; groups::WORDS];
+    let mut masks = [0u64; groups::WORDS];
+    let mut middle = [0u64; groups::WORDS];
+    let first = start.mask;
+    let before = start.preauthenticator;
+    let mask = crate::group::load(text, n, first, &mut group, &mut masks);
+    through(task, &mut group, &mut middle, n, keys);
+    put(task, &mut group, &masks, n, at, out);
+    let preauthenticator = crate::group::take_up(before, &middle, n);
     Chain {
-        mask: m,
-        preauthenticator: p,
+        mask,
+        preauthenticator,
     }
+}
+
+// ---- a run
+
+// How many of the blocks that are left go into the next group.
+fn in_group(left: usize) -> usize
+    ensures { λ n. ⌜ InGroup left n ⌝ }
+{
+    if groups::BLOCKS < left {
+        groups::BLOCKS
+    } else {
+        left
+    }
+}
+
+// RUN over the first `count` blocks of a text with its padding. What is written goes to the front of an output; a check writes nothing.
+pub fn run(
+    task: Task,
+    start: Chain,
+    keys: &[u8; cipher::KEYS],
+    text: &[u8],
+    count: usize,
+    out: &mut [u8],
+) -> Chain
+    requires { ⌜ Expanded (now keys) ⌝ }
+    requires { ⌜ count ≤ length (now text) / 16 + 1 ⌝ }
+    requires { ⌜ Room (writesOf task) (count * 16) (length (now out)) ⌝ }
+    ensures { λ c. ⌜ Ran (ran task (keyOf (now (keys .entry))) (firstBlocks count (padded (now (text .entry)))) (bytesOf (start .mask)) (bytesOf (start .preauthenticator))) (now (out .entry)) (now (out .exit)) (bytesOf (c .mask)) (bytesOf (c .preauthenticator)) ⌝ }
+{
+    let mut chain = start;
+    let mut i: usize = 0;
+    while i < count {
+        let n = in_group(count - i);
+        let at = i * 16;
+        let next = step(task, chain, keys, &text[at..], n, at, out);
+        chain = next;
+        i += n;
+    }
+    chain
 }

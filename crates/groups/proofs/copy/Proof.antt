@@ -1,0 +1,55 @@
+-- The blocks that the loop has copied, and the others.
+use borrow.Author.Needs.{needs}
+use mathlib.Core.Path.{_≡_}
+use Prim.Native.Nat.{_-_, _≤_}
+use native.Mathlib.Omega.{arith}
+use lib.ListN.{length}
+use Rattle.groups.specs.Group.{blockAt}
+use Rattle.groups.proofs.Loop.{During, begins, turn, ends}
+use Rattle.groups.proofs.copy.Statement.{statement}
+use Rattle.groups.proofs.copy.Tie as tie
+
+abbrev Inv-loop : tie.InvT-loop
+Inv-loop from n group₀ i₀ group i = (i ≤ n) × During i (blockAt from) group₀ group
+
+abbrev μ-loop : tie.MeasureT-loop
+μ-loop from n group₀ i₀ group i = n - i
+
+loop-holds : tie.Need-loop-holds Inv-loop μ-loop
+loop-holds c = (search needs, begins _ _ (c .pre .1))
+
+get-requires : tie.Need-get-requires Inv-loop μ-loop
+get-requires c κs = search needs
+
+put-requires : tie.Need-put-requires Inv-loop μ-loop
+put-requires c κs = search needs
+
+add-i : tie.Need-add-i Inv-loop μ-loop
+add-i c = search needs
+
+loop-less : tie.Need-loop-less Inv-loop μ-loop
+loop-less c = search needs
+
+loop-again : tie.Need-loop-again Inv-loop μ-loop
+loop-again c =
+    let l = c .before .before .before .before in (
+      search needs,
+      turn _ (l .loop .i) _ (l .loop .group) (c .put .last .0) _ (l .loop .inv .1) (c .put .ensures) (c .before .before .get .ensures),
+    )
+
+returns : tie.Need-returns Inv-loop μ-loop
+returns c = ends _ (c .before .loop .i) _ _ _ (c .before .loop .inv .1) (c .loop-test .left)
+
+pub copy-spec : {M : Type 1} → statement M
+copy-spec =
+    tie.close
+    (tie.spec
+    Inv-loop
+    μ-loop
+    loop-holds
+    get-requires
+    put-requires
+    add-i
+    loop-less
+    loop-again
+    returns)
