@@ -1,7 +1,7 @@
 -- A loop that writes to the front of a list, in parts of a width: after i parts, these and the rest of what there was.
 use mathlib.Core.Path.{_≡_, refl, sym, ap, ap₂, _∙_}
 use mathlib.Core.Bool.{Bool, true, false}
-use mathlib.Core.List.{List, [], _++_, append-assoc}
+use mathlib.Core.List.{List, [], _++_, append-assoc, append-nil}
 use Prim.Native.Nat.{ℕ, zero, suc, _+_, _*_, _≤_, _<_}
 use native.Mathlib.Omega.{arith}
 use native.Mathlib.Numerals.{add-one}
@@ -48,6 +48,34 @@ module _ (w : ℕ) (b : ℕ → List ℕ) where
   -- at the end
   pub front-ends : (i n : ℕ) (old now : List ℕ) → i ≤ n → n ≤ i → Front i old now → Front n old now
   front-ends i n old now h l is = is ∙ ap (λ (k : ℕ). inTurn k b ++ drop (k * w) old) (let e : i ≡ n = omega (arith, h, l) in e)
+
+-- ---- blocks one after another
+
+pub turn-as : (n : ℕ) (b b′ : ℕ → List ℕ) → ((i : ℕ) → i < n → b i ≡ b′ i) → inTurn n b ≡ inTurn n b′
+unfolding inTurn
+turn-as zero b b′ e = refl
+turn-as (suc n) b b′ e = ap₂ (λ (x y : List ℕ). x ++ y) (turn-as n b b′ (λ i l. e i (omega (arith, l)))) (e n (omega arith))
+
+-- the first one, and those behind it
+pub turn-first : (n : ℕ) (b : ℕ → List ℕ) → b 0 ++ inTurn n (λ i. b (suc i)) ≡ inTurn (suc n) b
+unfolding inTurn
+turn-first zero b = append-nil (b 0)
+turn-first (suc n) b =
+    sym (append-assoc (b 0) (inTurn n (λ i. b (suc i))) (b (suc n))) ∙ ap (λ (x : List ℕ). x ++ b (suc n)) (turn-first n b)
+
+-- n of them, and m more
+pub turn-add : (n m : ℕ) (b : ℕ → List ℕ) → inTurn (n + m) b ≡ inTurn n b ++ inTurn m (λ j. b (n + j))
+unfolding inTurn
+turn-add n zero b = ap (λ (k : ℕ). inTurn k b) (let e : n + 0 ≡ n = omega arith in e) ∙ sym (append-nil (inTurn n b))
+turn-add n (suc m) b =
+    ap (λ (k : ℕ). inTurn k b) (let e : n + suc m ≡ suc (n + m) = omega arith in e)
+    ∙ ap (λ (x : List ℕ). x ++ b (n + m)) (turn-add n m b) ∙ append-assoc (inTurn n b) (inTurn m (λ j. b (n + j))) (b (n + m))
+
+-- block i of what stands behind n blocks
+pub block-behind : (n i : ℕ) (bytes : List ℕ) → blockOf (drop (n * 16) bytes) i ≡ blockOf bytes (n + i)
+unfolding blockOf
+block-behind n i bytes =
+    ap (take 16) (drop-drop (i * 16) (n * 16) bytes ∙ ap (λ (k : ℕ). drop k bytes) (let e : n * 16 + i * 16 ≡ (n + i) * 16 = omega arith in e))
 
 -- words of eight bytes, two to a block
 pub two-words : (g : List ℕ) (n : ℕ) → inTurn (n * 2) (λ k. lowBytes 8 (getD g k 0)) ≡ inTurn n (blockAt g)

@@ -1,3 +1,8 @@
--- Walk: a run over blocks, one after another. Groups: what the functions on a group come to.
-pub mod Walk
+-- Cipher: FIPS 197's cipher as the mode's. Parts: the rest of a slice. Text: a text with its padding, by blocks. Taken: middletexts taken up. Groups: a group done, and a run as a fold over groups. Walk: a run
+-- done is the mode's.
+pub mod Cipher
+pub mod Parts
+pub mod Text
+pub mod Taken
 pub mod Groups
+pub mod Walk

@@ -1,244 +1,138 @@
--- The loop of step 2, over any two functions on blocks: sealing, opening and checking are such walks. What is left to do, from where the
--- loop stands, is what there was to do from the start.
+-- Step 2 over blocks one after another, by any two functions on blocks: sealing, opening and checking are such walks. By the number of a
+-- block: its mask is the first one jumped by its number.
 use mathlib.Core.Path.{_≡_, refl, sym, ap, ap₂, _∙_}
 use mathlib.Core.Bool.{Bool, true, false, cond}
-use mathlib.Core.List.{List, [], _∷_, _++_, append-assoc, append-nil}
-use Prim.Native.Nat.{ℕ, suc, _+_, _-_, _*_, _≤_, _<_}
+use mathlib.Core.List.{List, [], _∷_, _++_}
+use Prim.Native.Nat.{ℕ, zero, suc, _+_, _*_, _<_}
 use native.Mathlib.Omega.{arith}
-use lib.ListN.{length, take, drop, length-append, length-drop, take-append-drop}
-use lib.Seq.{take-at, drop-at, drop-drop, length-take-le}
+use lib.ListN.{length, drop}
 use Rattle.blocks.specs.Bytes.{xorBytes, firstBlocks}
-use Rattle.blocks.specs.Gf128.{timesX}
-use Rattle.mode.specs.Mode.{Pass, plaintext, ciphertext, zeroBlock, middletext, written, pass}
+use Rattle.blocks.specs.Gf128.{timesX, jump}
+use Rattle.blocks.proofs.TimesX.{jump-add}
+use Rattle.groups.specs.Group.{blockOf, inTurn}
+use Rattle.groups.proofs.Front.{length-inTurn, turn-as, turn-first, block-behind}
+use Rattle.mode.specs.Mode.{Pass, plaintext, ciphertext, middletext, written, pass}
 use Rattle.mode.specs.Aes.{aes}
 use Rattle.mode.specs.Calls.{decrypted}
 use Rattle.fips197.specs.Aes128.{firstHalf, secondHalf, invFirstHalf, invSecondHalf}
-use Rattle.runs.specs.Run.{Ran, opening}
+use Rattle.runs.specs.Task.{toMiddle, fromMiddle, writes, middleAt, outputAt}
+use Rattle.runs.specs.Group.{takenUp, Done}
+use Rattle.runs.specs.Run.{ran, Ran}
+use Rattle.runs.specs.declared.run.Task.{Task}
+use Rattle.runs.specs.declared.run.Task.the-variants.{Seal, Open, Check}
+use Rattle.runs.proofs.Taken.{taken-as, taken-first}
 
 -- each block goes through f to the middletext, and through g on
-unfoldable pub walk : (List ℕ → List ℕ) → (List ℕ → List ℕ) → List (List ℕ) → List ℕ → List ℕ → Pass
+unfoldable walk : (List ℕ → List ℕ) → (List ℕ → List ℕ) → List (List ℕ) → List ℕ → List ℕ → Pass
 walk f g [] mask p = record { output = []; preauthenticator = p; mask = mask }
 walk f g (b ∷ bs) mask p =
     let rest = walk f g bs (timesX mask) (xorBytes (timesX p) (f (xorBytes b mask))) in
     record { output = xorBytes (g (f (xorBytes b mask))) mask ++ rest .output; preauthenticator = rest .preauthenticator; mask = rest .mask }
 
+-- ---- by the number of a block
+
+module _ (f g : List ℕ → List ℕ) where
+  abbrev middle : List ℕ → List ℕ → ℕ → List ℕ
+  middle text mask i = f (xorBytes (blockOf text i) (jump i mask))
+
+  abbrev output : List ℕ → List ℕ → ℕ → List ℕ
+  output text mask i = xorBytes (g (middle text mask i)) (jump i mask)
+
+  -- the next block of a text is the first of what is behind it, under the next mask
+  next-mask : (mask : List ℕ) (i : ℕ) → jump i (timesX mask) ≡ jump (suc i) mask
+  unfolding jump
+  next-mask mask i = sym (jump-add i 1 mask) ∙ ap (λ (k : ℕ). jump k mask) (let e : i + 1 ≡ suc i = omega arith in e)
+
+  next-middle : (text mask : List ℕ) (i : ℕ) → middle (drop 16 text) (timesX mask) i ≡ middle text mask (suc i)
+  next-middle text mask i =
+      ap₂ (λ (b m : List ℕ). f (xorBytes b m)) (block-behind 1 i text ∙ ap (blockOf text) (let e : 1 + i ≡ suc i = omega arith in e)) (next-mask mask i)
+
+  walk-mask : (n : ℕ) (text mask p : List ℕ) → walk f g (firstBlocks n text) mask p .mask ≡ jump n mask
+  unfolding walk firstBlocks jump
+  walk-mask zero text mask p = refl
+  walk-mask (suc n) text mask p = walk-mask n (drop 16 text) (timesX mask) _ ∙ next-mask mask n
+
+  walk-taken : (n : ℕ) (text mask p : List ℕ) → walk f g (firstBlocks n text) mask p .preauthenticator ≡ takenUp n (middle text mask) p
+  unfolding walk firstBlocks jump blockOf takenUp
+  walk-taken zero text mask p = refl
+  walk-taken (suc n) text mask p =
+      walk-taken n (drop 16 text) (timesX mask) _
+      ∙ taken-as n (middle (drop 16 text) (timesX mask)) (λ i. middle text mask (suc i)) _ (λ i l. next-middle text mask i)
+      ∙ taken-first n (middle text mask) p
+
+  walk-output : (n : ℕ) (text mask p : List ℕ) → walk f g (firstBlocks n text) mask p .output ≡ inTurn n (output text mask)
+  unfolding walk firstBlocks jump blockOf inTurn
+  walk-output zero text mask p = refl
+  walk-output (suc n) text mask p =
+      ap (λ (x : List ℕ). output text mask 0 ++ x)
+      (walk-output n (drop 16 text) (timesX mask) _
+      ∙ turn-as n (output (drop 16 text) (timesX mask)) (λ i. output text mask (suc i)) (λ i l. ap₂ (λ (x m : List ℕ). xorBytes (g x) m) (next-middle text mask i) (next-mask mask i)))
+      ∙ turn-first n (output text mask)
+
 -- ---- sealing, opening and checking
 
-seal-walk : (key : List ℕ) (bs : List (List ℕ)) (mask p : List ℕ) → walk (firstHalf key) (secondHalf key) bs mask p ≡ pass aes plaintext key bs mask p
-unfolding walk pass middletext written
-seal-walk key [] mask p = refl
-seal-walk key (b ∷ bs) mask p =
-    ap (λ (q : Pass). record {
-      output = xorBytes (secondHalf key (firstHalf key (xorBytes b mask))) mask ++ q .output;
-      preauthenticator = q .preauthenticator;
-      mask = q .mask;
-    }) (seal-walk key bs (timesX mask) (xorBytes (timesX p) (firstHalf key (xorBytes b mask))))
+module _ (key : List ℕ) where
+  seal-walk : (bs : List (List ℕ)) (mask p : List ℕ) → walk (firstHalf key) (secondHalf key) bs mask p ≡ pass aes plaintext key bs mask p
+  unfolding walk pass middletext written
+  seal-walk [] mask p = refl
+  seal-walk (b ∷ bs) mask p =
+      ap (λ (q : Pass). record {
+        output = xorBytes (secondHalf key (firstHalf key (xorBytes b mask))) mask ++ q .output;
+        preauthenticator = q .preauthenticator;
+        mask = q .mask;
+      }) (seal-walk bs (timesX mask) (xorBytes (timesX p) (firstHalf key (xorBytes b mask))))
 
-open-output : (key : List ℕ) (bs : List (List ℕ)) (mask p : List ℕ)
-    → walk (invSecondHalf key) (invFirstHalf key) bs mask p .output ≡ decrypted aes key bs mask
-unfolding walk decrypted middletext
-open-output key [] mask p = refl
-open-output key (b ∷ bs) mask p =
-    ap (λ (r : List ℕ). xorBytes (invFirstHalf key (invSecondHalf key (xorBytes b mask))) mask ++ r)
-    (open-output key bs (timesX mask) (xorBytes (timesX p) (invSecondHalf key (xorBytes b mask))))
+  open-output : (bs : List (List ℕ)) (mask p : List ℕ) → walk (invSecondHalf key) (invFirstHalf key) bs mask p .output ≡ decrypted aes key bs mask
+  unfolding walk decrypted middletext
+  open-output [] mask p = refl
+  open-output (b ∷ bs) mask p =
+      ap (λ (r : List ℕ). xorBytes (invFirstHalf key (invSecondHalf key (xorBytes b mask))) mask ++ r)
+      (open-output bs (timesX mask) (xorBytes (timesX p) (invSecondHalf key (xorBytes b mask))))
 
-module _ (key : List ℕ) (g : List ℕ → List ℕ) where
-  check-mask : (bs : List (List ℕ)) (mask p : List ℕ) → walk (invSecondHalf key) g bs mask p .mask ≡ pass aes ciphertext key bs mask p .mask
-  unfolding walk pass middletext
-  check-mask [] mask p = refl
-  check-mask (b ∷ bs) mask p = check-mask bs (timesX mask) (xorBytes (timesX p) (invSecondHalf key (xorBytes b mask)))
+  module _ (g : List ℕ → List ℕ) where
+    check-mask : (bs : List (List ℕ)) (mask p : List ℕ) → walk (invSecondHalf key) g bs mask p .mask ≡ pass aes ciphertext key bs mask p .mask
+    unfolding walk pass middletext
+    check-mask [] mask p = refl
+    check-mask (b ∷ bs) mask p = check-mask bs (timesX mask) (xorBytes (timesX p) (invSecondHalf key (xorBytes b mask)))
 
-  check-preauthenticator : (bs : List (List ℕ)) (mask p : List ℕ)
-      → walk (invSecondHalf key) g bs mask p .preauthenticator ≡ pass aes ciphertext key bs mask p .preauthenticator
-  unfolding walk pass middletext
-  check-preauthenticator [] mask p = refl
-  check-preauthenticator (b ∷ bs) mask p = check-preauthenticator bs (timesX mask) (xorBytes (timesX p) (invSecondHalf key (xorBytes b mask)))
+    check-preauthenticator : (bs : List (List ℕ)) (mask p : List ℕ)
+        → walk (invSecondHalf key) g bs mask p .preauthenticator ≡ pass aes ciphertext key bs mask p .preauthenticator
+    unfolding walk pass middletext
+    check-preauthenticator [] mask p = refl
+    check-preauthenticator (b ∷ bs) mask p = check-preauthenticator bs (timesX mask) (xorBytes (timesX p) (invSecondHalf key (xorBytes b mask)))
 
--- ---- the chain: mask and pre-authenticator after i of n blocks of `text`
+  check-output : (bs : List (List ℕ)) (mask p : List ℕ) → pass aes ciphertext key bs mask p .output ≡ []
+  unfolding pass written
+  check-output [] mask p = refl
+  check-output (b ∷ bs) mask p = check-output bs (timesX mask) _
 
-pub record Chained (f g : List ℕ → List ℕ) (start text : List ℕ) (n i : ℕ) (mask p : List ℕ) : Type 0 where
-  pub count : i ≤ n
-  pub masked : walk f g (firstBlocks (n - i) (drop (i * 16) text)) mask p .mask ≡ walk f g (firstBlocks n text) start zeroBlock .mask
-  pub authenticated : walk f g (firstBlocks (n - i) (drop (i * 16) text)) mask p .preauthenticator ≡ walk f g (firstBlocks n text) start zeroBlock .preauthenticator
+-- ---- blocks done are a run over them
 
--- one block of what is left, done
-one-step : (f g : List ℕ → List ℕ) (k m : ℕ) (v w t mask p mask′ p′ : List ℕ) → m ≡ suc k → v ≡ drop 16 w → t ≡ f (xorBytes (take 16 w) mask)
-    → mask′ ≡ timesX mask → p′ ≡ xorBytes (timesX p) t
-    → record {
-      output = xorBytes (g t) mask ++ walk f g (firstBlocks k v) mask′ p′ .output;
-      preauthenticator = walk f g (firstBlocks k v) mask′ p′ .preauthenticator;
-      mask = walk f g (firstBlocks k v) mask′ p′ .mask;
+-- written to the front, with its length
+in-front : (n : ℕ) (b : ℕ → List ℕ) (output old new : List ℕ) → output ≡ inTurn n b → ((i : ℕ) → i < n → length (b i) ≡ 16) → new ≡ inTurn n b ++ drop (n * 16) old
+    → new ≡ output ++ drop (length output) old
+in-front n b output old new e long is =
+    is ∙ ap₂ (λ (x : List ℕ) (k : ℕ). x ++ drop k old) (sym e) (sym (ap length e ∙ length-inTurn 16 b n long))
+
+pub done-ran : (task : Task) (n : ℕ) (key text mask p old new mask′ p′ : List ℕ) → Done task n key text mask p 0 old new mask′ p′
+    → Ran (ran task key (firstBlocks n text) mask p) old new mask′ p′
+unfolding ran toMiddle fromMiddle writes middleAt outputAt
+done-ran Seal n key text mask p old new mask′ p′ d =
+    let w = seal-walk key (firstBlocks n text) mask p in
+    record {
+      written = in-front n (outputAt Seal key text mask) _ old new (ap (λ (q : Pass). q .output) (sym w) ∙ walk-output (firstHalf key) (secondHalf key) n text mask p) (d .long) (d .written);
+      masked = d .masked ∙ sym (walk-mask (firstHalf key) (secondHalf key) n text mask p) ∙ ap (λ (q : Pass). q .mask) w;
+      authenticated = d .authenticated ∙ sym (walk-taken (firstHalf key) (secondHalf key) n text mask p) ∙ ap (λ (q : Pass). q .preauthenticator) w;
     }
-    ≡ walk f g (firstBlocks m w) mask p
-unfolding walk firstBlocks
-one-step f g k m v w t mask p mask′ p′ em ev et er ep =
-    (λ i. record {
-      output = xorBytes (g (et i)) mask ++ walk f g (firstBlocks k (ev i)) (er i) ((ep ∙ ap (xorBytes (timesX p)) et) i) .output;
-      preauthenticator = walk f g (firstBlocks k (ev i)) (er i) ((ep ∙ ap (xorBytes (timesX p)) et) i) .preauthenticator;
-      mask = walk f g (firstBlocks k (ev i)) (er i) ((ep ∙ ap (xorBytes (timesX p)) et) i) .mask;
-    })
-    ∙ ap (λ (z : ℕ). walk f g (firstBlocks z w) mask p) (sym em)
-
-no-more : (f g : List ℕ → List ℕ) (k : ℕ) (w mask p : List ℕ) → k ≡ 0 → walk f g (firstBlocks k w) mask p ≡ record { output = []; preauthenticator = p; mask = mask }
-unfolding walk firstBlocks
-no-more f g k w mask p e = ap (λ (z : ℕ). walk f g (firstBlocks z w) mask p) e
-
-module _ (f g : List ℕ → List ℕ) (start text : List ℕ) (n : ℕ) where
-  pub chain-begins : Chained f g start text n 0 start zeroBlock
-  chain-begins =
-      let e : n - 0 ≡ n = omega arith in
-      record {
-        count = omega arith;
-        masked = ap (λ (k : ℕ). walk f g (firstBlocks k text) start zeroBlock .mask) e;
-        authenticated = ap (λ (k : ℕ). walk f g (firstBlocks k text) start zeroBlock .preauthenticator) e;
-      }
-
-  module _ (i : ℕ) (mask p : List ℕ) (now : Chained f g start text n i mask p) where
-    -- a turn of the loop, where x is the block that it reads, masked
-    module _ (l : i < n) (x t mask′ p′ : List ℕ) (ex : x ≡ xorBytes (take 16 (drop (i * 16) text)) mask) (et : t ≡ f x)
-        (ep : p′ ≡ xorBytes (timesX p) t) (er : mask′ ≡ timesX mask) where
-      left : record {
-        output = xorBytes (g t) mask ++ walk f g (firstBlocks (n - (i + 1)) (drop ((i + 1) * 16) text)) mask′ p′ .output;
-        preauthenticator = walk f g (firstBlocks (n - (i + 1)) (drop ((i + 1) * 16) text)) mask′ p′ .preauthenticator;
-        mask = walk f g (firstBlocks (n - (i + 1)) (drop ((i + 1) * 16) text)) mask′ p′ .mask;
-      }
-          ≡ walk f g (firstBlocks (n - i) (drop (i * 16) text)) mask p
-      left =
-          let e : (i + 1) * 16 ≡ i * 16 + 16 = omega arith in
-          one-step f g (n - (i + 1)) (n - i) (drop ((i + 1) * 16) text) (drop (i * 16) text) t mask p mask′ p′ (omega arith)
-          (ap (λ (k : ℕ). drop k text) e ∙ sym (drop-drop 16 (i * 16) text)) (et ∙ ap f ex) er ep
-
-      pub chain-turn : Chained f g start text n (i + 1) mask′ p′
-      chain-turn =
-          record {
-            count = omega arith;
-            masked = ap (λ (q : Pass). q .mask) left ∙ now .masked;
-            authenticated = ap (λ (q : Pass). q .preauthenticator) left ∙ now .authenticated;
-          }
-
-    -- at the end the mask and the pre-authenticator are the whole walk's
-    pub mask-ends : n ≤ i → mask ≡ walk f g (firstBlocks n text) start zeroBlock .mask
-    mask-ends h = sym (ap (λ (q : Pass). q .mask) (no-more f g (n - i) (drop (i * 16) text) mask p (omega arith))) ∙ now .masked
-
-    pub preauthenticator-ends : n ≤ i → p ≡ walk f g (firstBlocks n text) start zeroBlock .preauthenticator
-    preauthenticator-ends h = sym (ap (λ (q : Pass). q .preauthenticator) (no-more f g (n - i) (drop (i * 16) text) mask p (omega arith))) ∙ now .authenticated
-
--- ---- the output, which held `old`, after i of n blocks
-
-pub record Written (f g : List ℕ → List ℕ) (start text old : List ℕ) (n i : ℕ) (new mask p : List ℕ) : Type 0 where
-  pub chain : Chained f g start text n i mask p
-  pub long : length new ≡ length old
-  pub rest : drop (i * 16) new ≡ drop (i * 16) old
-  pub output : take (i * 16) new ++ walk f g (firstBlocks (n - i) (drop (i * 16) text)) mask p .output ≡ walk f g (firstBlocks n text) start zeroBlock .output
-
-module _ (f g : List ℕ → List ℕ) (start text old : List ℕ) (n : ℕ) where
-  pub begins : Written f g start text old n 0 old start zeroBlock
-  begins =
-      record {
-        chain = chain-begins f g start text n;
-        long = refl;
-        rest = refl;
-        output = ap (λ (k : ℕ). walk f g (firstBlocks k text) start zeroBlock .output) (let e : n - 0 ≡ n = omega arith in e);
-      }
-
-  module _ (fits : n * 16 ≤ length old) (i : ℕ) (new mask p : List ℕ) (now : Written f g start text old n i new mask p) where
-    pub turn : (x t u new′ p′ mask′ : List ℕ) → i < n → length (xorBytes u mask) ≡ 16
-        → x ≡ xorBytes (take 16 (drop (i * 16) text)) mask → t ≡ f x → u ≡ g t
-        → new′ ≡ take (i * 16) new ++ xorBytes u mask ++ drop (i * 16 + 16) new → p′ ≡ xorBytes (timesX p) t → mask′ ≡ timesX mask
-        → Written f g start text old n (i + 1) new′ mask′ p′
-    turn x t u new′ p′ mask′ l ly ex et eu en ep er =
-        record { chain = chain-turn f g start text n i mask p (now .chain) l x t mask′ p′ ex et ep er; long = long′; rest = rest′; output = output′ }
-      where
-        y : List ℕ
-        y = xorBytes u mask
-
-        next : (i + 1) * 16 ≡ i * 16 + 16
-        next = omega arith
-
-        front : length (take (i * 16) new) ≡ i * 16
-        front = length-take-le (i * 16) new (omega (arith, now .long))
-
-        front′ : length (take (i * 16) new ++ y) ≡ (i + 1) * 16
-        front′ = length-append (take (i * 16) new) y ∙ omega (arith, front)
-
-        long′ : length new′ ≡ length old
-        long′ =
-            ap length en ∙ length-append (take (i * 16) new ++ y) (drop (i * 16 + 16) new)
-            ∙ omega (arith, front′, length-drop (i * 16 + 16) new, now .long)
-
-        rest′ : drop ((i + 1) * 16) new′ ≡ drop ((i + 1) * 16) old
-        rest′ =
-            ap (drop ((i + 1) * 16)) en ∙ drop-at (take (i * 16) new ++ y) (drop (i * 16 + 16) new) ((i + 1) * 16) front′
-            ∙ sym (drop-drop 16 (i * 16) new) ∙ ap (drop 16) (now .rest) ∙ drop-drop 16 (i * 16) old ∙ ap (λ (k : ℕ). drop k old) (sym next)
-
-        out′ : take ((i + 1) * 16) new′ ≡ take (i * 16) new ++ xorBytes (g t) mask
-        out′ =
-            ap (take ((i + 1) * 16)) en ∙ take-at (take (i * 16) new ++ y) (drop (i * 16 + 16) new) ((i + 1) * 16) front′
-            ∙ ap (λ (z : List ℕ). take (i * 16) new ++ xorBytes z mask) eu
-
-        output′ : take ((i + 1) * 16) new′ ++ walk f g (firstBlocks (n - (i + 1)) (drop ((i + 1) * 16) text)) mask′ p′ .output
-            ≡ walk f g (firstBlocks n text) start zeroBlock .output
-        output′ =
-            ap (λ (z : List ℕ). z ++ walk f g (firstBlocks (n - (i + 1)) (drop ((i + 1) * 16) text)) mask′ p′ .output) out′
-            ∙ append-assoc (take (i * 16) new) (xorBytes (g t) mask) (walk f g (firstBlocks (n - (i + 1)) (drop ((i + 1) * 16) text)) mask′ p′ .output)
-            ∙ ap (λ (q : Pass). take (i * 16) new ++ q .output) (left f g start text n i mask p (now .chain) l x t mask′ p′ ex et ep er)
-            ∙ now .output
-
-    pub ends : n ≤ i → Ran true (walk f g (firstBlocks n text) start zeroBlock) n old new mask p
-    ends h =
-        record {
-          written =
-              sym (take-append-drop (i * 16) new)
-              ∙ ap₂ (λ (x y : List ℕ). x ++ y) (sym (ap (λ (q : Pass). take (i * 16) new ++ q .output) (no-more f g (n - i) (drop (i * 16) text) mask p (omega arith)) ∙ append-nil (take (i * 16) new)) ∙ now .output)
-              (now .rest ∙ ap (λ (k : ℕ). drop (k * 16) old) all);
-          masked = mask-ends f g start text n i mask p (now .chain) h;
-          authenticated = preauthenticator-ends f g start text n i mask p (now .chain) h;
-        }
-      where
-        all : i ≡ n
-        all = omega (arith, now .chain .count)
-
--- ---- the same where nothing may be written
-
-abbrev pub Going : Bool → (List ℕ → List ℕ) → (List ℕ → List ℕ) → List ℕ → List ℕ → List ℕ → ℕ → ℕ → List ℕ → List ℕ → List ℕ → Type 0
-Going true f g start text old n i new mask p = Written f g start text old n i new mask p
-Going false f g start text old n i new mask p = Chained f g start text n i mask p × (new ≡ old)
-
-module _ (f g : List ℕ → List ℕ) (start text old : List ℕ) (n : ℕ) where
-  pub going-begins : (b : Bool) → Going b f g start text old n 0 old start zeroBlock
-  going-begins true = begins f g start text old n
-  going-begins false = (chain-begins f g start text n, refl)
-
-  pub going-long : (b : Bool) (i : ℕ) (new mask p : List ℕ) → Going b f g start text old n i new mask p → length new ≡ length old
-  going-long true i new mask p h = h .long
-  going-long false i new mask p h = ap length (h .1)
-
-  module _ (i : ℕ) (new mask p x t new′ p′ mask′ : List ℕ) (l : i < n) (long : length (xorBytes (g t) mask) ≡ 16)
-      (ex : x ≡ xorBytes (take 16 (drop (i * 16) text)) mask) (et : t ≡ f x) (ep : p′ ≡ xorBytes (timesX p) t) (er : mask′ ≡ timesX mask) where
-    pub going-turn : (b : Bool) → (b ≡ true → n * 16 ≤ length old) → Going b f g start text old n i new mask p
-        → new′ ≡ cond b (take (i * 16) new ++ xorBytes (g t) mask ++ drop (i * 16 + 16) new) new → Going b f g start text old n (i + 1) new′ mask′ p′
-    going-turn true fits now en = turn f g start text old n (fits refl) i new mask p now x t (g t) new′ p′ mask′ l long ex et refl en ep er
-    going-turn false fits now en = (chain-turn f g start text n i mask p (now .0) l x t mask′ p′ ex et ep er, en ∙ now .1)
-
-  pub going-ends : (b : Bool) → (b ≡ true → n * 16 ≤ length old) → (i : ℕ) (new mask p : List ℕ) → Going b f g start text old n i new mask p → n ≤ i
-      → Ran b (walk f g (firstBlocks n text) start zeroBlock) n old new mask p
-  going-ends true fits i new mask p now h = ends f g start text old n (fits refl) i new mask p now h
-  going-ends false fits i new mask p now h =
-      record { written = now .1; masked = mask-ends f g start text n i mask p (now .0) h; authenticated = preauthenticator-ends f g start text n i mask p (now .0) h }
-
--- ---- what the runs leave
-
-module _ (key start : List ℕ) (bs : List (List ℕ)) where
-  pub ran-sealing : {n : ℕ} {old new mask p : List ℕ} → Ran true (walk (firstHalf key) (secondHalf key) bs start zeroBlock) n old new mask p
-      → Ran true (pass aes plaintext key bs start zeroBlock) n old new mask p
-  ran-sealing r = rw (seal-walk key bs start zeroBlock) at r
-
-  pub ran-opening : (b : Bool) {n : ℕ} {old new mask p : List ℕ} → Ran b (walk (invSecondHalf key) (invFirstHalf key) bs start zeroBlock) n old new mask p
-      → Ran b (opening key bs start) n old new mask p
-  unfolding opening
-  ran-opening b {n} {old} r =
-      record {
-        written = r .written ∙ ap (λ (x : List ℕ). cond b (x ++ drop (n * 16) old) old) (open-output key bs start zeroBlock);
-        masked = r .masked ∙ check-mask key (invFirstHalf key) bs start zeroBlock;
-        authenticated = r .authenticated ∙ check-preauthenticator key (invFirstHalf key) bs start zeroBlock;
-      }
+done-ran Open n key text mask p old new mask′ p′ d =
+    record {
+      written = in-front n (outputAt Open key text mask) _ old new (sym (open-output key (firstBlocks n text) mask p) ∙ walk-output (invSecondHalf key) (invFirstHalf key) n text mask p) (d .long) (d .written);
+      masked = d .masked ∙ sym (walk-mask (invSecondHalf key) (invFirstHalf key) n text mask p) ∙ check-mask key (invFirstHalf key) (firstBlocks n text) mask p;
+      authenticated = d .authenticated ∙ sym (walk-taken (invSecondHalf key) (invFirstHalf key) n text mask p) ∙ check-preauthenticator key (invFirstHalf key) (firstBlocks n text) mask p;
+    }
+done-ran Check n key text mask p old new mask′ p′ d =
+    record {
+      written = d .written ∙ ap (λ (x : List ℕ). x ++ drop (length x) old) (sym (check-output key (firstBlocks n text) mask p));
+      masked = d .masked ∙ sym (walk-mask (invSecondHalf key) (λ x. x) n text mask p) ∙ check-mask key (λ x. x) (firstBlocks n text) mask p;
+      authenticated = d .authenticated ∙ sym (walk-taken (invSecondHalf key) (λ x. x) n text mask p) ∙ check-preauthenticator key (λ x. x) (firstBlocks n text) mask p;
+    }

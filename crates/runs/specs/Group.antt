@@ -13,13 +13,13 @@ use Rattle.runs.specs.declared.run.Task.{Task}
 
 -- n masks from this one on, and the one after them
 pub record Filled (n : ℕ) (mask masks next : List ℕ) : Type 0 where
-  pub masks : Holds n (λ i. jump i mask) masks
+  pub filled : Holds n (λ i. jump i mask) masks
   pub after : next ≡ jump n mask
 
 -- the first n blocks of a text with its padding, each plus its mask; the masks; and the one after them
 pub record Loaded (n : ℕ) (text mask group masks next : List ℕ) : Type 0 where
   pub blocks : Holds n (λ i. xorBytes (blockOf (padded text) i) (jump i mask)) group
-  pub masks : Holds n (λ i. jump i mask) masks
+  pub filled : Holds n (λ i. jump i mask) masks
   pub after : next ≡ jump n mask
 
 -- n blocks through the cipher

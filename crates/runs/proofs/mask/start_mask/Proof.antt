@@ -7,7 +7,8 @@ use Prim.Native.Nat.{ℕ}
 use Rattle.blocks.specs.Bytes.{xorBytes, same}
 use Rattle.mode.specs.Mode.{encrypt as encryptOf, startMask, zeroBlock}
 use Rattle.mode.specs.Aes.{aes}
-use Rattle.runs.specs.Run.{keyOf}
+use Rattle.cipher.specs.Keys.{keyOf}
+use Rattle.runs.proofs.Cipher.{by-halves}
 use Rattle.runs.proofs.mask.start_mask.Statement.{statement}
 use Rattle.runs.proofs.mask.start_mask.Tie as tie
 
@@ -26,8 +27,8 @@ key-of-requires c κs = search needs
 xor-requires : tie.Need-xor-requires
 xor-requires c κs = search needs
 
-encrypt-requires : tie.Need-encrypt-requires
-encrypt-requires c κs = search needs
+encrypt-block-requires : tie.Need-encrypt-block-requires
+encrypt-block-requires c κs = search needs
 
 xor-requires-2 : tie.Need-xor-requires-2
 xor-requires-2 c κs = search needs
@@ -43,7 +44,7 @@ returns c =
     let s = c .before .before in
     let a = s .before .before .before .before .before .args in
     c .from-bytes .ensures
-    ∙ chosen true (a .keys .now) (a .iv) _ _ _ _ (s .before .before .before .before .key-of .ensures) (s .before .before .before .xor .ensures) (s .before .before .encrypt .ensures) (s .before .xor2 .ensures)
+    ∙ chosen true (a .keys .now) (a .iv) _ _ _ _ (s .before .before .before .before .key-of .ensures) (s .before .before .before .xor .ensures) (s .before .before .encrypt-block .ensures ∙ by-halves (keyOf (a .keys .now)) (s .before .before .before .xor .result)) (s .before .xor2 .ensures)
     (sym (s .equal .ensures) ∙ c .before .if1 .taken)
 
 from-bytes-requires-2 : tie.Need-from-bytes-requires-2
@@ -54,7 +55,7 @@ returns-2 c =
     let s = c .before .before in
     let a = s .before .before .before .before .before .args in
     c .from-bytes2 .ensures
-    ∙ chosen false (a .keys .now) (a .iv) _ _ _ _ (s .before .before .before .before .key-of .ensures) (s .before .before .before .xor .ensures) (s .before .before .encrypt .ensures) (s .before .xor2 .ensures)
+    ∙ chosen false (a .keys .now) (a .iv) _ _ _ _ (s .before .before .before .before .key-of .ensures) (s .before .before .before .xor .ensures) (s .before .before .encrypt-block .ensures ∙ by-halves (keyOf (a .keys .now)) (s .before .before .before .xor .result)) (s .before .xor2 .ensures)
     (sym (s .equal .ensures) ∙ c .before .if1 .left)
 
 pub start-mask-spec : {M : Type 1} → statement M
@@ -63,7 +64,7 @@ start-mask-spec =
     (tie.spec
     key-of-requires
     xor-requires
-    encrypt-requires
+    encrypt-block-requires
     xor-requires-2
     equal-requires
     from-bytes-requires

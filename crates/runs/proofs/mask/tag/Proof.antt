@@ -4,7 +4,8 @@ use mathlib.Core.Path.{ap, ap₂, _∙_}
 use Rattle.blocks.specs.Bytes.{xorBytes}
 use Rattle.mode.specs.Mode.{encrypt as encryptOf, tagFrom}
 use Rattle.mode.specs.Aes.{aes}
-use Rattle.runs.specs.Run.{keyOf}
+use Rattle.cipher.specs.Keys.{keyOf}
+use Rattle.runs.proofs.Cipher.{by-halves}
 use Rattle.runs.proofs.mask.tag.Statement.{statement}
 use Rattle.runs.proofs.mask.tag.Tie as tie
 
@@ -14,8 +15,8 @@ xor-requires c κs = search needs
 to-bytes-requires : tie.Need-to-bytes-requires
 to-bytes-requires c κs = search needs
 
-encrypt-requires : tie.Need-encrypt-requires
-encrypt-requires c κs = search needs
+encrypt-block-requires : tie.Need-encrypt-block-requires
+encrypt-block-requires c κs = search needs
 
 to-bytes-requires-2 : tie.Need-to-bytes-requires-2
 to-bytes-requires-2 c κs = search needs
@@ -29,7 +30,7 @@ returns c =
     let a = c .before .before .before .before .before .args in
     c .xor2 .ensures
     ∙ ap₂ xorBytes
-    (c .before .before .encrypt .ensures ∙ ap (encryptOf aes (keyOf (a .keys .now))) (c .before .before .before .to-bytes .ensures ∙ c .before .before .before .before .xor .ensures))
+    (c .before .before .encrypt-block .ensures ∙ by-halves (keyOf (a .keys .now)) (c .before .before .before .to-bytes .result) ∙ ap (encryptOf aes (keyOf (a .keys .now))) (c .before .before .before .to-bytes .ensures ∙ c .before .before .before .before .xor .ensures))
     (c .before .to-bytes2 .ensures)
 
 pub tag-spec : {M : Type 1} → statement M
@@ -38,7 +39,7 @@ tag-spec =
     (tie.spec
     xor-requires
     to-bytes-requires
-    encrypt-requires
+    encrypt-block-requires
     to-bytes-requires-2
     xor-requires-2
     returns)

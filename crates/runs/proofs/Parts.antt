@@ -1,0 +1,28 @@
+-- The part of a slice from the n-th byte on, and what is written where a test says so.
+use mathlib.Core.Path.{_≡_, refl, sym, ap, _∙_}
+use mathlib.Core.Bool.{Bool, true, false, cond}
+use mathlib.Core.List.{List, [], _∷_, _++_, append-nil}
+use Prim.Native.Nat.{ℕ, _-_}
+use native.Mathlib.Nat.{le-of-eq}
+use lib.ListN.{length, take, drop, length-drop}
+use lib.Seq.{take-all}
+
+pub drop-all : (x : List ℕ) → drop (length x) x ≡ []
+drop-all [] = refl
+drop-all (a ∷ x) = drop-all x
+
+pub back-is : (n : ℕ) (old : List ℕ) → take (length old - n) (drop n old) ≡ drop n old
+back-is n old = take-all (length old - n) (drop n old) (le-of-eq (length-drop n old))
+
+pub back-put : (n : ℕ) (old new : List ℕ) → take n old ++ (new ++ drop (length old - n) (drop n old)) ≡ take n old ++ new
+back-put n old new =
+    ap (λ (z : List ℕ). take n old ++ (new ++ z)) (ap (λ (k : ℕ). drop k (drop n old)) (sym (length-drop n old)) ∙ drop-all (drop n old))
+    ∙ ap (λ (z : List ℕ). take n old ++ z) (append-nil new)
+
+-- ---- written, or not
+
+pub where-true : (w : Bool) (x y new : List ℕ) → w ≡ true → new ≡ x → new ≡ cond w x y
+where-true w x y new e h = h ∙ sym (ap (λ (b : Bool). cond b x y) e)
+
+pub where-false : (w : Bool) (x y new : List ℕ) → w ≡ false → new ≡ y → new ≡ cond w x y
+where-false w x y new e h = h ∙ sym (ap (λ (b : Bool). cond b x y) e)
