@@ -1,15 +1,14 @@
 -- Runs laid out: lengths, blocks, and the table's conditions by the length.
 use mathlib.Core.Path.{_≡_, refl, sym, ap, ap₂, _∙_}
 use mathlib.Core.Bool.{Bool, true, false, not}
-use mathlib.Core.List.{List, [], _∷_, _++_, append-assoc}
+use mathlib.Core.List.{List, [], _∷_}
 use Prim.Native.Nat.{ℕ, _+_, _-_, _*_, _/_, _%_, _≤_}
 use native.Mathlib.Omega.{arith}
-use lib.ListN.{length, set}
+use lib.ListN.{length}
 use lib.Dec.{eqb}
 use borrow.Author.Tests.{eq-eqb}
-use Rattle.blocks.specs.Bytes.{zeros}
+use Rattle.blocks.specs.Bytes.{firstBlocks}
 use Rattle.blocks.specs.Gf128.{jump}
-use Rattle.blocks.proofs.Zeros.{set-zeros, zeros-append}
 use Rattle.blocks.proofs.TimesX.{length-jump}
 use Rattle.mode.specs.Mode.{plaintext, zeroBlock, startMask, blocksOf, padded}
 use Rattle.mode.specs.Aes.{aes}
@@ -19,6 +18,7 @@ use Rattle.mode.proofs.Aes.{aes-lawful}
 use Rattle.mode.proofs.Blocks.{length-padded, count-middle, run-long}
 use Rattle.mode.proofs.Laws.{start-long}
 use Rattle.mode.proofs.Runs.{output-long}
+use Rattle.runs.proofs.Text.{whole-blocks}
 use Rattle.calls.specs.Layout.{kindOf, laidOut, laidOutLength}
 use Rattle.calls.specs.Work.{runRows}
 
@@ -63,39 +63,16 @@ pub check-rows : (key iv : List ℕ) (first : ℕ) (bytes : List ℕ) → runRow
 unfolding kindOf laidOutLength unalignedRun blocksOfRun
 check-rows key iv first bytes = shared-rows key iv first false bytes
 
--- a message laid out with its padding, from the message in front of zeros
-pub pad-there : (m : List ℕ) (room : ℕ) → length m / 16 * 16 + 16 ≤ room
-    → set (m ++ zeros (room - length m)) (length m) 0x80 ≡ padded m ++ zeros (room - (length m / 16 * 16 + 16))
-unfolding padded
-pad-there m room h =
-    let n = length m in
-    set-zeros m (room - n) 0x80 (omega arith)
-    ∙ ap (λ (z : List ℕ). m ++ (0x80 ∷ z))
-    (ap zeros (let e : room - n - 1 ≡ 15 - n % 16 + (room - (n / 16 * 16 + 16)) = omega arith in e) ∙ sym (zeros-append (15 - n % 16) (room - (n / 16 * 16 + 16))))
-    ∙ sym (append-assoc m (0x80 ∷ zeros (15 - n % 16)) (zeros (room - (n / 16 * 16 + 16))))
+-- its blocks, as a run takes them: of the bytes with their padding
+pub blocks-there : (l : Bool) (bytes : List ℕ) → firstBlocks (laidOutLength l (length bytes) / 16) (padded bytes) ≡ blocksOf (laidOut l bytes)
+unfolding laidOut laidOutLength blocksOf
+blocks-there true bytes = ap (λ (n : ℕ). firstBlocks n (padded bytes)) (let e : (length bytes / 16 * 16 + 16) / 16 ≡ length (padded bytes) / 16 = omega (arith, length-padded bytes) in e)
+blocks-there false bytes = whole-blocks (length bytes / 16) bytes (omega arith)
 
-pub laid-least : (l : Bool) (n : ℕ) → n ≤ laidOutLength l n
+pub blocks-within : (l : Bool) (n : ℕ) → laidOutLength l n / 16 ≤ n / 16 + 1
 unfolding laidOutLength
-laid-least true n = omega arith
-laid-least false n = omega arith
-
--- as the code lays it out, from the bytes in front of zeros
-pub laid-last : (l : Bool) (m old new : List ℕ) (room : ℕ) → l ≡ true → laidOutLength l (length m) ≤ room → old ≡ m ++ zeros (room - length m) → new ≡ set old (length m) 0x80
-    → new ≡ laidOut l m ++ zeros (room - laidOutLength l (length m))
-unfolding laidOut laidOutLength
-laid-last true m old new room e h eo en = en ∙ ap (λ (z : List ℕ). set z (length m) 0x80) eo ∙ pad-there m room h
-laid-last false m old new room e h eo en = absurd (false-true e)
-  where
-    false-true : false ≡ true → ⊥
-    false-true e = let z : _≡_ {A = ℕ} 0 1 = cc in omega arith
-
-pub laid-middle : (l : Bool) (m new : List ℕ) (room : ℕ) → l ≡ false → new ≡ m ++ zeros (room - length m) → new ≡ laidOut l m ++ zeros (room - laidOutLength l (length m))
-unfolding laidOut laidOutLength
-laid-middle false m new room e en = en
-laid-middle true m new room e en = absurd (true-false e)
-  where
-    true-false : true ≡ false → ⊥
-    true-false e = let z : _≡_ {A = ℕ} 0 1 = cc in omega arith
+blocks-within true n = omega arith
+blocks-within false n = omega arith
 
 -- the ciphertext of a run is as long as the run laid out
 pub run-output-long : (key iv : List ℕ) (first : ℕ) (l : Bool) (bytes : List ℕ) → length key ≡ 16 → length iv ≡ 16 → laidOutLength l (length bytes) % 16 ≡ 0

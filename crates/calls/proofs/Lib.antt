@@ -1,7 +1,6 @@
 -- LaidOut: how runs are laid out. Outputs: an output that is written part by part. Fits: where no row holds, the output is long enough.
--- Keys: the key schedule. Opening: where the message ends, and what is let out.
+-- Opening: where the message ends, and what is let out.
 pub mod LaidOut
 pub mod Outputs
 pub mod Fits
-pub mod Keys
 pub mod Opening

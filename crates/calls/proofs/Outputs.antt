@@ -7,6 +7,7 @@ use native.Mathlib.Omega.{arith}
 use lib.ListN.{length, take, drop, length-drop}
 use lib.Seq.{take-at, drop-at, drop-append-add, take-all}
 use Rattle.blocks.specs.Bytes.{zeros}
+use Rattle.runs.proofs.Parts.{drop-all}
 use Rattle.calls.specs.Layout.{Fresh}
 use Rattle.blocks.proofs.Zeros.{drop-zeros, length-zeros, zeros-append}
 
@@ -32,10 +33,6 @@ stored-after front old new b n left l eo en =
 
 -- ---- the front of an output, worked on in place
 
-drop-all : (x : List ℕ) → drop (length x) x ≡ []
-drop-all [] = refl
-drop-all (a ∷ x) = drop-all x
-
 module _ (text out : List ℕ) (size left : ℕ) (l : length text ≡ size) (e : out ≡ text ++ zeros left) where
   pub front-is : take size out ≡ text
   front-is = ap (take size) e ∙ take-at text (zeros left) size l
@@ -59,12 +56,8 @@ module _ (text out : List ℕ) (size left : ℕ) (l : length text ≡ size) (e :
     pub worked : new ++ drop size out ≡ output ++ zeros left
     worked = ap₂ (λ (x y : List ℕ). x ++ y) all-new (ap (drop size) e ∙ drop-at text (zeros left) size l)
 
--- ---- an output from the n-th byte on
+-- ---- an output of zeros, written to the front
 
-pub back-is : (n : ℕ) (old : List ℕ) → take (length old - n) (drop n old) ≡ drop n old
-back-is n old = take-all (length old - n) (drop n old) (le-of-eq (length-drop n old))
-
-pub back-put : (n : ℕ) (old new : List ℕ) → take n old ++ (new ++ drop (length old - n) (drop n old)) ≡ take n old ++ new
-back-put n old new =
-    ap (λ (z : List ℕ). take n old ++ (new ++ z)) (ap (λ (k : ℕ). drop k (drop n old)) (sym (length-drop n old)) ∙ drop-all (drop n old))
-    ∙ ap (λ (z : List ℕ). take n old ++ z) (append-nil new)
+pub over-zeros : (n m : ℕ) (output old new : List ℕ) → n ≡ m → old ≡ zeros (length old) → new ≡ output ++ drop n old → new ≡ output ++ zeros (length old - m)
+over-zeros n m output old new e eo en =
+    en ∙ ap (λ (x : List ℕ). output ++ drop n x) eo ∙ ap (λ (x : List ℕ). output ++ x) (drop-zeros n (length old) ∙ ap (λ (k : ℕ). zeros (length old - k)) e)

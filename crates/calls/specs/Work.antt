@@ -7,7 +7,7 @@ use Prim.Native.Nat.{ℕ, _+_, _/_, _%_, _-_, _≤_}
 use lib.ListN.{length}
 use lib.Dec.{eqb}
 use Rattle.blocks.specs.Bytes.{zeros}
-use Rattle.fips197.specs.KeyExpansion.{keyExpansion}
+use Rattle.cipher.specs.Keys.{Expands}
 use Rattle.mode.specs.declared.RunRecord.{RunRecord}
 use Rattle.mode.specs.Mode.{Pass, ciphertext, blocksOf, startMask, unbrokenTag, ivPart, cipherPart, inWords}
 use Rattle.mode.specs.Aes.{aes}
@@ -18,7 +18,7 @@ use Rattle.mode.specs.Calls.{Outcome, outcomeBy, blank, plaintextOf, unpadded, 
 
 -- a key schedule and a start mask
 pub record Prepares (key iv keys start : List ℕ) : Type 0 where
-  pub expanded : keys ≡ keyExpansion 4 10 key
+  pub expanded : Expands key keys
   pub started : start ≡ startMask aes key iv
 
 -- a text sealed in front of an output, of which this many bytes are left

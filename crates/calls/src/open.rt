@@ -1,5 +1,6 @@
 // Open a sealed record.
 use mode::Written;
+use runs::run::Task;
 ghost use mathlib.Core.Path.{_≡_};
 ghost use Prim.Native.Nat.{_-_, _%_, _≤_};
 ghost use lib.ListN.{length, take};
@@ -95,16 +96,15 @@ fn open_text(key: &[u8], sealed: &[u8], out: &mut [u8]) -> [u8; 16]
     requires { ⌜ length (now sealed) - 32 ≤ length (now out) ⌝ }
     ensures { λ t. ⌜ TextOpened (now (key .entry)) (now (sealed .entry)) (length (now (out .entry))) (now (out .exit)) t ⌝ }
 {
-    let sbox = &aes_tables::sbox::SBOX;
-    let inv_sbox = &aes_tables::inv_sbox::INV_SBOX;
     let stop = sealed.len() - 16;
     let p = crate::prepare::prepare(key, &sealed[..16]);
     let keys = p.keys;
     let start = p.start;
-    let chain = runs::run::open_blocks(start, &keys, inv_sbox, &sealed[16..stop], true, out);
+    let count = sealed.len() / 16 - 2;
+    let chain = runs::run::run(Task::Open, start, &keys, &sealed[16..stop], count, out);
     let mask = chain.mask;
     let preauthenticator = chain.preauthenticator;
-    runs::mask::tag(preauthenticator, mask, &keys, sbox)
+    runs::mask::tag(preauthenticator, mask, &keys)
 }
 
 // All 16 bytes of the tag are compared before anything is let out.

@@ -8,7 +8,7 @@ ghost use Rattle.mode.specs.Table.{zeroMask};
 ghost use Rattle.calls.specs.Work.{Prepares};
 
 pub struct Prepared {
-    pub keys: [u8; 176],
+    pub keys: [u8; cipher::KEYS],
     pub start: Words,
 }
 
@@ -18,11 +18,10 @@ pub fn prepare(key: &[u8], iv: &[u8]) -> Prepared
     requires { ⌜ length (now iv) ≡ 16 ⌝ }
     ensures { λ p. ⌜ Prepares (now (key .entry)) (now (iv .entry)) (p .keys) (bytesOf (p .start)) ⌝ }
 {
-    let sbox = &aes_tables::sbox::SBOX;
     let k = blocks::block::load(key, 0);
     let v = blocks::block::load(iv, 0);
-    let keys = aes_tables::key::expand(k);
-    let start = runs::mask::start_mask(v, &keys, sbox);
+    let keys = cipher::expand(k);
+    let start = runs::mask::start_mask(v, &keys);
     Prepared { keys, start }
 }
 

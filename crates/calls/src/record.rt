@@ -65,13 +65,12 @@ fn closing_tag(key: &[u8], iv: &[u8], run: RunRecord) -> [u8; 16]
     requires { ⌜ length (now iv) ≡ 16 ⌝ }
     ensures { λ t. ⌜ t ≡ closingTag inWords aes (now (key .entry)) (now (iv .entry)) run ⌝ }
 {
-    let sbox = &aes_tables::sbox::SBOX;
     let p = crate::prepare::prepare(key, iv);
     let keys = p.keys;
     let start = p.start;
     let mask = blocks::gf128::jump(start, run.count);
     let preauthenticator = run.preauthenticator;
-    runs::mask::tag(preauthenticator, mask, &keys, sbox)
+    runs::mask::tag(preauthenticator, mask, &keys)
 }
 
 // CLOSE a record into its tag.

@@ -3,6 +3,7 @@ use blocks::words::Words;
 use mode::RecordAnswer;
 use mode::RunAnswer;
 use mode::RunRecord;
+use runs::run::Task;
 ghost use mathlib.Core.Path.{_≡_};
 ghost use mathlib.Core.List.{_++_};
 ghost use Prim.Native.Nat.{_+_, _-_, _%_, _/_, _≤_};
@@ -73,12 +74,11 @@ fn seal_run_into(
 {
     let size = crate::text::laid_out_length(bytes, last);
     let count = (size / 16) as u32;
-    let sbox = &aes_tables::sbox::SBOX;
     let p = crate::prepare::prepare(key, iv);
     let keys = p.keys;
     let start = p.start;
     let first_mask = blocks::gf128::jump(start, first);
-    let chain = crate::text::seal_text(bytes, last, first_mask, &keys, sbox, out);
+    let chain = crate::text::seal_text(bytes, last, first_mask, &keys, out);
     let preauthenticator = chain.preauthenticator;
     let run = RunRecord {
         first,
@@ -135,17 +135,17 @@ fn check_run_record(key: &[u8], iv: &[u8], first: u32, bytes: &[u8]) -> RunRecor
     requires { ⌜ length (now bytes) / 16 ≤ limit ⌝ }
     ensures { λ r. ⌜ r ≡ runRecord inWords aes ciphertext (now (key .entry)) (now (iv .entry)) first (blocksOf (now (bytes .entry))) ⌝ }
 {
-    let inv_sbox = &aes_tables::inv_sbox::INV_SBOX;
     let p = crate::prepare::prepare(key, iv);
     let keys = p.keys;
     let start = p.start;
     let mask = blocks::gf128::jump(start, first);
+    let count = bytes.len() / 16;
     let mut nothing = [0u8; 1];
-    let chain = runs::run::open_blocks(mask, &keys, inv_sbox, bytes, false, &mut nothing);
+    let chain = runs::run::run(Task::Check, mask, &keys, bytes, count, &mut nothing);
     let preauthenticator = chain.preauthenticator;
     RunRecord {
         first,
-        count: (bytes.len() / 16) as u32,
+        count: count as u32,
         preauthenticator,
     }
 }

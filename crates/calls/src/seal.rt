@@ -45,16 +45,15 @@ fn seal_into(key: &[u8], iv: &[u8], message: &[u8], out: &mut [u8]) -> Written
     ensures answer { λ a. ⌜ a ≡ writtenGiven (length (now (message .entry)) / 16 * 16 + 48) ⌝ }
     ensures output { λ _. ⌜ now (out .exit) ≡ sealedRecord aes (now (key .entry)) (now (iv .entry)) (now (message .entry)) ++ zeros (length (now (out .entry)) - (length (now (message .entry)) / 16 * 16 + 48)) ⌝ }
 {
-    let sbox = &aes_tables::sbox::SBOX;
     let p = crate::prepare::prepare(key, iv);
     let keys = p.keys;
     let start = p.start;
     let v = blocks::block::load(iv, 0);
     blocks::block::store(out, 0, v);
-    let chain = crate::text::seal_text(message, true, start, &keys, sbox, &mut out[16..]);
+    let chain = crate::text::seal_text(message, true, start, &keys, &mut out[16..]);
     let mask = chain.mask;
     let preauthenticator = chain.preauthenticator;
-    let tag = runs::mask::tag(preauthenticator, mask, &keys, sbox);
+    let tag = runs::mask::tag(preauthenticator, mask, &keys);
     let at = crate::text::laid_out_length(message, true) + 16;
     blocks::block::store(out, at, tag);
     Written {

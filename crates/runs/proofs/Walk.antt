@@ -15,7 +15,7 @@ use Rattle.mode.specs.Mode.{Pass, plaintext, ciphertext, middletext, written, p
 use Rattle.mode.specs.Aes.{aes}
 use Rattle.mode.specs.Calls.{decrypted}
 use Rattle.fips197.specs.Aes128.{firstHalf, secondHalf, invFirstHalf, invSecondHalf}
-use Rattle.runs.specs.Task.{toMiddle, fromMiddle, writes, middleAt, outputAt}
+use Rattle.runs.specs.Task.{toMiddle, fromMiddle, writes, wrote, middleAt, outputAt}
 use Rattle.runs.specs.Group.{takenUp, Done}
 use Rattle.runs.specs.Run.{ran, Ran}
 use Rattle.runs.specs.declared.run.Task.{Task}
@@ -109,30 +109,36 @@ module _ (key : List ℕ) where
 -- ---- blocks done are a run over them
 
 -- written to the front, with its length
-in-front : (n : ℕ) (b : ℕ → List ℕ) (output old new : List ℕ) → output ≡ inTurn n b → ((i : ℕ) → i < n → length (b i) ≡ 16) → new ≡ inTurn n b ++ drop (n * 16) old
-    → new ≡ output ++ drop (length output) old
-in-front n b output old new e long is =
-    is ∙ ap₂ (λ (x : List ℕ) (k : ℕ). x ++ drop k old) (sym e) (sym (ap length e ∙ length-inTurn 16 b n long))
+output-long : (n : ℕ) (b : ℕ → List ℕ) (output : List ℕ) → output ≡ inTurn n b → ((i : ℕ) → i < n → length (b i) ≡ 16) → length output ≡ n * 16
+output-long n b output e long = ap length e ∙ length-inTurn 16 b n long
+
+in-front : (n : ℕ) (b : ℕ → List ℕ) (output old new : List ℕ) → output ≡ inTurn n b → new ≡ inTurn n b ++ drop (n * 16) old → new ≡ output ++ drop (n * 16) old
+in-front n b output old new e is = is ∙ ap (λ (x : List ℕ). x ++ drop (n * 16) old) (sym e)
 
 pub done-ran : (task : Task) (n : ℕ) (key text mask p old new mask′ p′ : List ℕ) → Done task n key text mask p 0 old new mask′ p′
-    → Ran (ran task key (firstBlocks n text) mask p) old new mask′ p′
-unfolding ran toMiddle fromMiddle writes middleAt outputAt
+    → Ran (wrote task n) (ran task key (firstBlocks n text) mask p) old new mask′ p′
+unfolding ran toMiddle fromMiddle writes wrote middleAt outputAt
 done-ran Seal n key text mask p old new mask′ p′ d =
     let w = seal-walk key (firstBlocks n text) mask p in
+    let o = ap (λ (q : Pass). q .output) (sym w) ∙ walk-output (firstHalf key) (secondHalf key) n text mask p in
     record {
-      written = in-front n (outputAt Seal key text mask) _ old new (ap (λ (q : Pass). q .output) (sym w) ∙ walk-output (firstHalf key) (secondHalf key) n text mask p) (d .long) (d .written);
+      long = output-long n (outputAt Seal key text mask) _ o (d .long);
+      written = in-front n (outputAt Seal key text mask) _ old new o (d .written);
       masked = d .masked ∙ sym (walk-mask (firstHalf key) (secondHalf key) n text mask p) ∙ ap (λ (q : Pass). q .mask) w;
       authenticated = d .authenticated ∙ sym (walk-taken (firstHalf key) (secondHalf key) n text mask p) ∙ ap (λ (q : Pass). q .preauthenticator) w;
     }
 done-ran Open n key text mask p old new mask′ p′ d =
+    let o = sym (open-output key (firstBlocks n text) mask p) ∙ walk-output (invSecondHalf key) (invFirstHalf key) n text mask p in
     record {
-      written = in-front n (outputAt Open key text mask) _ old new (sym (open-output key (firstBlocks n text) mask p) ∙ walk-output (invSecondHalf key) (invFirstHalf key) n text mask p) (d .long) (d .written);
+      long = output-long n (outputAt Open key text mask) _ o (d .long);
+      written = in-front n (outputAt Open key text mask) _ old new o (d .written);
       masked = d .masked ∙ sym (walk-mask (invSecondHalf key) (invFirstHalf key) n text mask p) ∙ check-mask key (invFirstHalf key) (firstBlocks n text) mask p;
       authenticated = d .authenticated ∙ sym (walk-taken (invSecondHalf key) (invFirstHalf key) n text mask p) ∙ check-preauthenticator key (invFirstHalf key) (firstBlocks n text) mask p;
     }
 done-ran Check n key text mask p old new mask′ p′ d =
     record {
-      written = d .written ∙ ap (λ (x : List ℕ). x ++ drop (length x) old) (sym (check-output key (firstBlocks n text) mask p));
+      long = ap length (check-output key (firstBlocks n text) mask p);
+      written = d .written ∙ ap (λ (x : List ℕ). x ++ old) (sym (check-output key (firstBlocks n text) mask p));
       masked = d .masked ∙ sym (walk-mask (invSecondHalf key) (λ x. x) n text mask p) ∙ check-mask key (λ x. x) (firstBlocks n text) mask p;
       authenticated = d .authenticated ∙ sym (walk-taken (invSecondHalf key) (λ x. x) n text mask p) ∙ check-preauthenticator key (λ x. x) (firstBlocks n text) mask p;
     }

@@ -19,9 +19,11 @@ ran Open key blocks mask p =
     record { output = decrypted aes key blocks mask; preauthenticator = q .preauthenticator; mask = q .mask }
 ran Check key blocks mask p = pass aes ciphertext key blocks mask p
 
--- what a run leaves: its output in front of a slice, which held `old` and now holds `new`, and the mask and pre-authenticator that it answers
-pub record Ran (p : Pass) (old new mask preauthenticator : List ℕ) : Type 0 where
-  pub written : new ≡ p .output ++ drop (length (p .output)) old
+-- what a run leaves: its output of n bytes in front of a slice, which held `old` and now holds `new`, and the mask and pre-authenticator that it
+-- answers
+pub record Ran (n : ℕ) (p : Pass) (old new mask preauthenticator : List ℕ) : Type 0 where
+  pub long : length (p .output) ≡ n
+  pub written : new ≡ p .output ++ drop n old
   pub masked : mask ≡ p .mask
   pub authenticated : preauthenticator ≡ p .preauthenticator
 

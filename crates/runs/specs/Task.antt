@@ -1,7 +1,7 @@
 -- Sealing, opening and checking do the same with each block, but for the halves that it goes through and for what is stored.
 use mathlib.Core.Bool.{Bool, true, false}
 use mathlib.Core.List.{List}
-use Prim.Native.Nat.{ℕ}
+use Prim.Native.Nat.{ℕ, _*_}
 use Rattle.blocks.specs.Bytes.{xorBytes}
 use Rattle.blocks.specs.Gf128.{jump}
 use Rattle.groups.specs.Group.{blockOf}
@@ -25,6 +25,12 @@ unfoldable pub writes : Task → Bool
 writes Seal = true
 writes Open = true
 writes Check = false
+
+-- how many bytes, of n blocks
+unfoldable pub wrote : Task → ℕ → ℕ
+wrote Seal n = n * 16
+wrote Open n = n * 16
+wrote Check n = 0
 
 module _ (task : Task) (key text mask : List ℕ) where
   -- the middletext of block i of a text, where this is the mask of block 0

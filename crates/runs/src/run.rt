@@ -7,8 +7,8 @@ ghost use lib.ListN.{length};
 ghost use Rattle.blocks.specs.Bytes.{firstBlocks};
 ghost use Rattle.blocks.specs.Words.{bytesOf};
 ghost use Rattle.cipher.specs.Keys.{keyOf, Expanded};
-ghost use Rattle.mode.specs.Mode.{padded};
-ghost use Rattle.runs.specs.Task.{writes as writesOf};
+ghost use Rattle.mode.specs.Mode.{padded, zeroBlock};
+ghost use Rattle.runs.specs.Task.{writes as writesOf, wrote};
 ghost use Rattle.runs.specs.Group.{Through, Stored, InGroup, Done};
 ghost use Rattle.runs.specs.Run.{ran, Ran, Room};
 
@@ -124,10 +124,10 @@ fn in_group(left: usize) -> usize
     }
 }
 
-// RUN over the first `count` blocks of a text with its padding. What is written goes to the front of an output; a check writes nothing.
+// RUN over the first `count` blocks of a text with its padding, from the mask of the first one. What is written goes to the front of an output; a check writes nothing.
 pub fn run(
     task: Task,
-    start: Chain,
+    mask: Words,
     keys: &[u8; cipher::KEYS],
     text: &[u8],
     count: usize,
@@ -136,9 +136,12 @@ pub fn run(
     requires { ⌜ Expanded (now keys) ⌝ }
     requires { ⌜ count ≤ length (now text) / 16 + 1 ⌝ }
     requires { ⌜ Room (writesOf task) (count * 16) (length (now out)) ⌝ }
-    ensures { λ c. ⌜ Ran (ran task (keyOf (now (keys .entry))) (firstBlocks count (padded (now (text .entry)))) (bytesOf (start .mask)) (bytesOf (start .preauthenticator))) (now (out .entry)) (now (out .exit)) (bytesOf (c .mask)) (bytesOf (c .preauthenticator)) ⌝ }
+    ensures { λ c. ⌜ Ran (wrote task count) (ran task (keyOf (now (keys .entry))) (firstBlocks count (padded (now (text .entry)))) (bytesOf mask) zeroBlock) (now (out .entry)) (now (out .exit)) (bytesOf (c .mask)) (bytesOf (c .preauthenticator)) ⌝ }
 {
-    let mut chain = start;
+    let mut chain = Chain {
+        mask,
+        preauthenticator: Words { high: 0, low: 0 },
+    };
     let mut i: usize = 0;
     while i < count {
         let n = in_group(count - i);

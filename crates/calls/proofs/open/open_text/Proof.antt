@@ -4,18 +4,20 @@ use mathlib.Core.Path.{_≡_, sym, ap, _∙_}
 use mathlib.Core.List.{List, _++_}
 use Prim.Native.Nat.{ℕ, _+_, _-_, _*_, _/_, _%_, _≤_}
 use native.Mathlib.Omega.{arith}
-use lib.ListN.{length, take, drop, length-append}
+use lib.ListN.{length, take, drop}
 use lib.Seq.{length-take-le}
-use Rattle.blocks.specs.Bytes.{zeros}
+use Rattle.blocks.specs.Bytes.{zeros, firstBlocks}
 use Rattle.blocks.specs.Words.{bytesOf}
-use Rattle.blocks.proofs.Zeros.{drop-zeros, length-zeros}
-use Rattle.mode.specs.Mode.{Pass, blocksOf, startMask, unbroken, tagFrom, unbrokenTag, ivPart, cipherPart}
+use Rattle.mode.specs.Mode.{Pass, zeroBlock, padded, blocksOf, startMask, unbroken, tagFrom, unbrokenTag, ivPart, cipherPart}
 use Rattle.mode.specs.Aes.{aes}
 use Rattle.mode.specs.Calls.{plaintextOf}
 use Rattle.mode.proofs.Demand3.{cipher-length}
-use Rattle.aes_tables.proofs.Lookup.{sbox-table, invSbox-table}
-use Rattle.runs.specs.Run.{keyOf, opening}
-use Rattle.calls.proofs.Keys.{schedule, same-key}
+use Rattle.cipher.specs.Keys.{keyOf}
+use Rattle.runs.specs.declared.run.Task.the-variants.{Open}
+use Rattle.runs.specs.Task.{wrote}
+use Rattle.runs.specs.Run.{ran}
+use Rattle.runs.proofs.Text.{whole-blocks}
+use Rattle.calls.proofs.Outputs.{over-zeros}
 use Rattle.calls.proofs.open.open_text.Statement.{statement}
 use Rattle.calls.proofs.open.open_text.Tie as tie
 
@@ -24,74 +26,61 @@ part-is : (sealed : List ℕ) → take (length sealed - 16 - 16) (drop 16 sealed
 unfolding cipherPart
 part-is sealed = let e : length sealed - 16 - 16 ≡ length sealed - 32 = omega arith in ap (λ (k : ℕ). take k (drop 16 sealed)) e
 
--- what a run left of an output of zeros
-module _ (part old new output : List ℕ) (size : ℕ) (long : length part ≡ size) (aligned : size % 16 ≡ 0) (fits : size ≤ length old) (fresh : old ≡ zeros (length old))
-    (is : new ≡ output ++ drop (length part / 16 * 16) old) where
-  in-front : new ≡ output ++ zeros (length old - size)
-  in-front =
-      let e : length part / 16 * 16 ≡ size = omega arith in
-      is ∙ ap (λ (n : ℕ). output ++ drop n old) e ∙ ap (λ (x : List ℕ). output ++ drop size x) fresh ∙ ap (λ (x : List ℕ). output ++ x) (drop-zeros size (length old))
-
-  output-long : length new ≡ length old → length output ≡ size
-  output-long k = omega (arith, sym k ∙ ap length in-front ∙ length-append output (zeros (length old - size)), length-zeros (length old - size))
-
 sub-stop : tie.Need-sub-stop
 sub-stop c = search needs
 
 slice-aggregate-prepare : tie.Need-slice-aggregate-prepare
-slice-aggregate-prepare c = let s = c .before .before .before .before .before .before in sym (length-take-le 16 (s .args .sealed .now) (omega (arith, s .pre .1 .0 .least)))
+slice-aggregate-prepare c = let s = c .before .before .before .before in sym (length-take-le 16 (s .args .sealed .now) (omega (arith, s .pre .1 .0 .least)))
 
 prepare-requires : tie.Need-prepare-requires
-prepare-requires c κs = let s = c .before .before .before .before .before .before in (s .pre .0, length-take-le 16 (s .args .sealed .now) (omega (arith, s .pre .1 .0 .least)))
+prepare-requires c κs = let s = c .before .before .before .before in (s .pre .0, length-take-le 16 (s .args .sealed .now) (omega (arith, s .pre .1 .0 .least)))
 
-sub-open-blocks : tie.Need-sub-open-blocks
-sub-open-blocks c = search needs
+sub-count : tie.Need-sub-count
+sub-count c = omega (arith, c .before .before .before .before .before .before .before .pre .1 .0 .least)
 
-part-open-blocks-start : tie.Need-part-open-blocks-start
-part-open-blocks-start c = search needs
+sub-run : tie.Need-sub-run
+sub-run c = search needs
 
-part-open-blocks-end : tie.Need-part-open-blocks-end
-part-open-blocks-end c = search needs
+part-run-start : tie.Need-part-run-start
+part-run-start c = search needs
+
+part-run-end : tie.Need-part-run-end
+part-run-end c = search needs
 
 part-long : (c : tie.Start) → let sealed = c .args .sealed .now in length (take (length sealed - 16 - 16) (drop 16 sealed)) ≡ length sealed - 32
 part-long c = ap length (part-is (c .args .sealed .now)) ∙ cipher-length (c .args .sealed .now) (c .pre .1 .0 .least)
 
-open-blocks-requires : tie.Need-open-blocks-requires
-open-blocks-requires c κs =
-    let s = c .before .before .before .before .before .before .before .before .before .before .before .before in
-    let a = s .args in
-    (schedule (a .key .now) (take 16 (a .sealed .now)) _ _ (s .pre .0) (c .before .before .before .before .before .prepare .ensures), (invSbox-table, λ e. omega (arith, part-long s, s .pre .1 .1 .1)))
+run-requires : tie.Need-run-requires
+run-requires c κs =
+    let s = c .before .before .before .before .before .before .before .before .before .before in
+    (c .before .before .before .before .before .prepare .ensures .expanded .schedule, (omega (arith, part-long s, s .pre .1 .0 .least), λ e. omega (arith, s .pre .1 .1 .1, s .pre .1 .0 .least)))
 
 tag-requires : tie.Need-tag-requires
-tag-requires c κs =
-    let s = c .before .before .before .before .before .before .before .before .before .before .before .before .before .before .before .before .before .before in
-    let a = s .args in
-    (schedule (a .key .now) (take 16 (a .sealed .now)) _ _ (s .pre .0) (c .before .before .before .before .before .before .before .before .before .before .before .prepare .ensures), sbox-table)
+tag-requires c κs = c .before .before .before .before .before .before .before .before .before .before .before .prepare .ensures .expanded .schedule
 
 same-length : tie.Need-same-length
 same-length c = search needs
 
 returns : tie.Need-returns
-unfolding plaintextOf unbrokenTag unbroken opening ivPart blocksOf
+unfolding plaintextOf unbrokenTag unbroken ran wrote ivPart blocksOf
 returns c =
-    let s = c .before .before .before .before .before .before .before .before .before .before .before .before .before .before .before .before .before .before .before in
+    let s = c .before .before .before .before .before .before .before .before .before .before .before .before .before .before .before .before .before in
     let a = s .args in
     let q = c .before .before .before .before .before .before .before .before .before .before .before .before .prepare in
-    let y = c .before .before .before .before .before .before .open-blocks in
+    let y = c .before .before .before .before .before .before .run in
     let sealed = a .sealed .now in
-    let old = a .out .now in
     let size = length sealed - 32 in
     let part = take (length sealed - 16 - 16) (drop 16 sealed) in
-    let k = same-key (a .key .now) (take 16 sealed) _ _ (s .pre .0) (q .ensures) in
-    let p : opening (keyOf (q .result .keys)) (blocksOf part) (bytesOf (q .result .start)) ≡ opening (a .key .now) (blocksOf (cipherPart sealed)) (startMask aes (a .key .now) (ivPart sealed)) =
-    λ i. opening (k i) (blocksOf (part-is sealed i)) (q .ensures .started i) in
-    let h : size % 16 ≡ 0 = omega (arith, s .pre .1 .0 .least, s .pre .1 .0 .aligned) in
-    let w = y .ensures .written ∙ ap (λ (z : Pass). z .output ++ drop (length part / 16 * 16) old) p in
-    let new = y .last .1 .1 .1 .1 .1 .0 in
-    let text = (opening (a .key .now) (blocksOf (cipherPart sealed)) (startMask aes (a .key .now) (ivPart sealed))) .output in
+    let k = q .ensures .expanded .of in
+    let m = length sealed / 16 - 2 in
+    let n : m * 16 ≡ size = omega (arith, s .pre .1 .0 .least, s .pre .1 .0 .aligned) in
+    let bs : firstBlocks m (padded part) ≡ blocksOf (cipherPart sealed) =
+    whole-blocks m part (omega (arith, part-long s)) ∙ (λ i. firstBlocks ((let e : m ≡ length part / 16 = omega (arith, part-long s, n) in e) i) part) ∙ ap blocksOf (part-is sealed) in
+    let p : ran Open (keyOf (q .result .keys)) (firstBlocks m (padded part)) (bytesOf (q .result .start)) zeroBlock ≡ ran Open (a .key .now) (blocksOf (cipherPart sealed)) (startMask aes (a .key .now) (ivPart sealed)) zeroBlock =
+    λ i. ran Open (k i) (bs i) (q .ensures .started i) zeroBlock in
     record {
-      written = in-front part old new text size (part-long s) h (s .pre .1 .1 .1) (s .pre .1 .1 .0 .zero) w;
-      long = output-long part old new text size (part-long s) h (s .pre .1 .1 .1) (s .pre .1 .1 .0 .zero) w (y .kept .1 .1 .1 .1 .1 .0);
+      written = over-zeros (m * 16) size ((ran Open (keyOf (q .result .keys)) (firstBlocks m (padded part)) (bytesOf (q .result .start)) zeroBlock) .output) (a .out .now) _ n (s .pre .1 .1 .0 .zero) (y .ensures .written) ∙ ap (λ (z : Pass). z .output ++ zeros (length (a .out .now) - size)) p;
+      long = ap (λ (z : Pass). length (z .output)) (sym p) ∙ y .ensures .long ∙ n;
       tagged =
           c .tag .ensures
           ∙ (λ i. tagFrom aes (k i) ((y .ensures .authenticated ∙ ap (λ (z : Pass). z .preauthenticator) p) i) ((y .ensures .masked ∙ ap (λ (z : Pass). z .mask) p) i));
@@ -104,10 +93,11 @@ open-text-spec =
     sub-stop
     slice-aggregate-prepare
     prepare-requires
-    sub-open-blocks
-    part-open-blocks-start
-    part-open-blocks-end
-    open-blocks-requires
+    sub-count
+    sub-run
+    part-run-start
+    part-run-end
+    run-requires
     tag-requires
     same-length
     returns)

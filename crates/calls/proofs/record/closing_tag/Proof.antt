@@ -8,8 +8,6 @@ use Rattle.blocks.specs.Words.{bytesOf}
 use Rattle.mode.specs.Mode.{tagFrom}
 use Rattle.mode.specs.Aes.{aes}
 use Rattle.mode.specs.Calls.{closingTag}
-use Rattle.aes_tables.proofs.Lookup.{sbox-table}
-use Rattle.calls.proofs.Keys.{schedule, same-key}
 use Rattle.calls.proofs.record.closing_tag.Statement.{statement}
 use Rattle.calls.proofs.record.closing_tag.Tie as tie
 
@@ -20,17 +18,15 @@ jump-requires : tie.Need-jump-requires
 jump-requires c κs = search needs
 
 tag-requires : tie.Need-tag-requires
-tag-requires c κs =
-    let s = c .before .before .before .before .before .before .before .before .before in
-    (schedule (s .args .key .now) (s .args .iv .now) _ _ (s .pre .0) (c .before .before .before .before .before .prepare .ensures), sbox-table)
+tag-requires c κs = c .before .before .before .before .before .prepare .ensures .expanded .schedule
 
 returns : tie.Need-returns
 unfolding closingTag
 returns c =
     let q = c .before .before .before .before .before .before in
-    let s = q .before .before .before .before in
+    let s = q .before .before .before in
     let a = s .args in
-    let k = same-key (a .key .now) (a .iv .now) _ _ (s .pre .0) (q .prepare .ensures) in
+    let k = q .prepare .ensures .expanded .of in
     c .tag .ensures
     ∙ ap₂ (λ (key mask : List ℕ). tagFrom aes key (bytesOf (a .run .preauthenticator)) mask) k (c .before .before .before .jump .ensures ∙ ap (jump (a .run .count)) (q .prepare .ensures .started))
 

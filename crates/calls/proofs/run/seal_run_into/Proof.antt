@@ -12,11 +12,9 @@ use Rattle.blocks.proofs.Bridge.{proper-by, words-of}
 use Rattle.mode.specs.Mode.{Pass, plaintext, zeroBlock, blocksOf, pass}
 use Rattle.mode.specs.Aes.{aes}
 use Rattle.mode.specs.Calls.{blocksOfRun, passFrom, runRecord}
-use Rattle.aes_tables.proofs.Lookup.{sbox-table}
-use Rattle.runs.specs.Run.{keyOf}
+use Rattle.cipher.specs.Keys.{keyOf}
 use Rattle.calls.specs.Layout.{kindOf, laidOut, laidOutLength}
 use Rattle.calls.proofs.LaidOut.{blocks-laidOut, count-laidOut}
-use Rattle.calls.proofs.Keys.{schedule, same-key}
 use Rattle.calls.proofs.run.seal_run_into.Statement.{statement}
 use Rattle.calls.proofs.run.seal_run_into.Tie as tie
 
@@ -34,9 +32,9 @@ jump-requires c κs = search needs
 
 seal-text-requires : tie.Need-seal-text-requires
 seal-text-requires c κs =
-    let s = c .before .before .before .before .before .before .before .before .before .before .before .before in
+    let s = c .before .before .before .before .before .before .before .before .before .before .before in
     let q = c .before .before .before .before .before .prepare in
-    (schedule (s .args .key .now) (s .args .iv .now) _ _ (s .pre .0) (q .ensures), (sbox-table, (s .pre .1 .1 .0, (s .pre .1 .1 .1 .0, s .pre .1 .1 .1 .1 .0))))
+    (q .ensures .expanded .schedule, (s .pre .1 .1 .0, (s .pre .1 .1 .1 .0, s .pre .1 .1 .1 .1 .0)))
 
 same-length : tie.Need-same-length
 same-length c = search needs
@@ -44,13 +42,13 @@ same-length c = search needs
 returns : tie.Need-returns
 unfolding runRecord passFrom
 returns c =
-    let s = c .before .before .before .before .before .before .before .before .before .before .before .before .before .before .before .before in
+    let s = c .before .before .before .before .before .before .before .before .before .before .before .before .before .before .before in
     let a = s .args in
     let q = c .before .before .before .before .before .before .before .before .before .prepare in
     let x = c .before .before .before .seal-text in
-    let y = c .before .before .before .before .before .before .before .before .before .before .before .laid-out-length in
+    let y = c .before .before .before .before .before .before .before .before .before .before .laid-out-length in
     let l = blocks-laidOut (a .last) (a .bytes .now) in
-    let k = same-key (a .key .now) (a .iv .now) _ _ (s .pre .0) (q .ensures) in
+    let k = q .ensures .expanded .of in
     let m = c .before .before .before .before .before .before .jump .ensures ∙ ap (jump (a .first)) (q .ensures .started) in
     let p : pass aes plaintext (keyOf (q .result .keys)) (blocksOf (laidOut (a .last) (a .bytes .now))) (bytesOf (c .before .before .before .before .before .before .jump .result)) zeroBlock ≡ passFrom aes plaintext (a .key .now) (a .iv .now) (a .first) (blocksOfRun (kindOf (a .last)) (a .bytes .now)) =
     λ i. pass aes plaintext (k i) (sym l i) (m i) zeroBlock in

@@ -5,6 +5,7 @@ use mathlib.Core.List.{List}
 use Prim.Native.Nat.{ℕ, _+_, _-_, _*_, _/_, _≤_, _<_}
 use native.Mathlib.Omega.{arith}
 use lib.ListN.{length, drop, length-drop}
+use Rattle.blocks.specs.Gf128.{lowBytes}
 use Rattle.blocks.specs.Words.{bytesOf}
 use Rattle.cipher.specs.Keys.{keyOf}
 use Rattle.mode.specs.Mode.{padded}
@@ -92,6 +93,7 @@ same-length : tie.Need-same-length Inv-loop μ-loop
 same-length c = c .before .loop .inv .1
 
 returns : tie.Need-returns Inv-loop μ-loop
+unfolding bytesOf lowBytes
 returns c =
     let l = c .before in
     let e : l .loop .i ≡ l .before .before .before .args .count = omega (arith, l .loop .inv .0, c .loop-test .left) in
