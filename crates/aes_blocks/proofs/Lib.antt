@@ -1,3 +1,4 @@
--- Each: the loop over the blocks. Given: from its end to the answer.
-pub mod Each
-pub mod Given
+-- Groups: one group after another. Lengths: either cipher takes 16 bytes to 16. Outcome: what is refused, and what a call leaves.
+pub mod Groups
+pub mod Lengths
+pub mod Outcome

@@ -1,22 +1,22 @@
--- A cipher applied to each block by itself.
-use mathlib.Core.Bool.{Bool}
-use mathlib.Core.List.{List, [], _∷_, _++_}
-use Prim.Native.Nat.{ℕ}
+-- A cipher applied to each block of a text by itself: what a call answers, and what it leaves in an output of `room` bytes.
+use mathlib.Core.Bool.{cond, not}
+use mathlib.Core.List.{List, _++_}
+use Prim.Native.Nat.{ℕ, _-_, _/_, _%_}
+use lib.Dec.{eqb, ltb}
 use lib.ListN.{length}
-use Rattle.mode.specs.Mode.{blocksOf}
-use Rattle.mode.specs.Table.{decide, not16, unaligned, tooShort}
-use Rattle.mode.specs.Calls.{Outcome, outcomeBy}
+use Rattle.blocks.specs.Bytes.{zeros}
+use Rattle.groups.specs.Group.{blockOf, inTurn}
 
 -- f of each block, one after another
-unfoldable pub each : (List ℕ → List ℕ) → List (List ℕ) → List ℕ
-each f [] = []
-each f (b ∷ bs) = f b ++ each f bs
+abbrev pub each : (List ℕ → List ℕ) → List ℕ → List ℕ
+each f text = inTurn (length text / 16) (λ i. f (blockOf text i))
 
--- refused by the numbers of document 01's table
-abbrev pub eachRows : List ℕ → List ℕ → ℕ → List (ℕ × Bool)
-eachRows key text room = (1, not16 key) ∷ (3, unaligned text) ∷ (5, tooShort room (length text)) ∷ []
+-- 1: the key is not 16 bytes. 3: the text is no multiple of 16 bytes. 5: the output is shorter than the text. The first of these that holds is
+-- the answer, and 0 where none does.
+unfoldable pub refusal : List ℕ → List ℕ → ℕ → ℕ
+refusal key text room =
+    cond (not (eqb (length key) 16)) 1 (cond (not (eqb (length text % 16) 0)) 3 (cond (ltb room (length text)) 5 0))
 
-unfoldable pub eachBlock : (List ℕ → List ℕ → List ℕ) → List ℕ → List ℕ → ℕ → Outcome (List ℕ)
-eachBlock cipher key text room =
-    let bytes = each (cipher key) (blocksOf text) in
-    outcomeBy (decide (eachRows key text room) bytes) bytes room
+-- the whole output: the cipher's blocks and zeros beyond them, or all zeros beside a refusal
+unfoldable pub output : (List ℕ → List ℕ → List ℕ) → List ℕ → List ℕ → ℕ → List ℕ
+output cipher key text room = cond (eqb (refusal key text room) 0) (each (cipher key) text ++ zeros (room - length text)) (zeros room)

@@ -1,3 +1,3 @@
--- EachBlock: a cipher applied to each block by itself. Started: what both directions start from.
+-- EachBlock: a cipher applied to each block by itself. Direction: which cipher it is.
 pub mod EachBlock
-pub mod Started
+pub mod Direction

@@ -4,19 +4,77 @@ ghost use mathlib.Core.Path.{_≡_};
 ghost use mathlib.Core.List.{_++_};
 ghost use Prim.Native.Nat.{_*_, _/_, _≤_};
 ghost use lib.ListN.{length, drop};
-ghost use Rattle.fips197.specs.Sbox.{sbox as sboxOf, invSbox};
 ghost use Rattle.fips197.specs.Aes128.{encrypt, decrypt};
-ghost use Rattle.aes_tables.specs.Table.{Tabulates};
-ghost use Rattle.runs.specs.Run.{keyOf, Expanded};
-ghost use Rattle.mode.specs.Table.{firstRow};
-ghost use Rattle.mode.specs.Calls.{number};
-ghost use Rattle.blocks.specs.Bytes.{firstBlocks, zeros};
-ghost use Rattle.aes_blocks.specs.EachBlock.{each, eachRows, eachBlock};
-ghost use Rattle.aes_blocks.specs.Started.{Begun};
+ghost use Rattle.groups.specs.Group.{blockAt, blockOf, Holds, inFront};
+ghost use Rattle.cipher.specs.Keys.{keyOf, Expanded};
+ghost use Rattle.aes_blocks.specs.EachBlock.{each, refusal as refusalOf, output};
+ghost use Rattle.aes_blocks.specs.Direction.{cipherOf};
 
-// The first row that holds, or 0.
-fn first_row(key: &[u8], text: &[u8], room: usize) -> u8
-    ensures { λ n. ⌜ n ≡ firstRow (eachRows (now (key .entry)) (now (text .entry)) room) ⌝ }
+enum Direction {
+    Encrypt,
+    Decrypt,
+}
+
+// ---- a group
+
+// n blocks through the cipher. `middle` is only room to work in.
+fn through(
+    direction: Direction,
+    group: &mut [u64; groups::WORDS],
+    middle: &mut [u64; groups::WORDS],
+    n: usize,
+    keys: &[u8; cipher::KEYS],
+)
+    requires { ⌜ length (now group) ≡ 64 ⌝ }
+    requires { ⌜ length (now middle) ≡ 64 ⌝ }
+    requires { ⌜ n ≤ 32 ⌝ }
+    requires { ⌜ Expanded (now keys) ⌝ }
+    ensures { λ _. ⌜ Holds n (λ i. cipherOf direction (keyOf (now (keys .entry))) (blockAt (now (group .entry)) i)) (now (group .exit)) ⌝ }
+{
+    match direction {
+        Direction::Encrypt => cipher::encrypt(group, middle, n, keys),
+        Direction::Decrypt => cipher::decrypt(group, middle, n, keys),
+    }
+}
+
+// The first n blocks of a text, to the front of an output.
+fn step(direction: Direction, keys: &[u8; cipher::KEYS], text: &[u8], n: usize, out: &mut [u8])
+    requires { ⌜ Expanded (now keys) ⌝ }
+    requires { ⌜ n ≤ 32 ⌝ }
+    requires { ⌜ n * 16 ≤ length (now text) ⌝ }
+    requires { ⌜ n * 16 ≤ length (now out) ⌝ }
+    ensures { λ _. ⌜ now (out .exit) ≡ inFront n (λ i. cipherOf direction (keyOf (now (keys .entry))) (blockOf (now (text .entry)) i)) (now (out .entry)) ⌝ }
+{
+    let mut group = [0u64; groups::WORDS];
+    let mut middle = [0u64; groups::WORDS];
+    groups::load(text, n, &mut group);
+    through(direction, &mut group, &mut middle, n, keys);
+    groups::store(&group, n, out);
+}
+
+// ---- all blocks
+
+// Each block of a text, to the front of an output, a group at a time.
+fn each_block(direction: Direction, keys: &[u8; cipher::KEYS], text: &[u8], out: &mut [u8])
+    requires { ⌜ Expanded (now keys) ⌝ }
+    requires { ⌜ length (now text) ≤ length (now out) ⌝ }
+    ensures { λ _. ⌜ now (out .exit) ≡ each (cipherOf direction (keyOf (now (keys .entry)))) (now (text .entry)) ++ drop (length (now (text .entry)) / 16 * 16) (now (out .entry)) ⌝ }
+{
+    let count = text.len() / 16;
+    let mut i: usize = 0;
+    while i < count {
+        let n = groups::in_group(count - i);
+        let at = i * 16;
+        step(direction, keys, &text[at..], n, &mut out[at..]);
+        i += n;
+    }
+}
+
+// ---- a call
+
+// The first refusal that holds, or 0.
+fn refusal(key: &[u8], text: &[u8], room: usize) -> u8
+    ensures { λ n. ⌜ n ≡ refusalOf (now (key .entry)) (now (text .entry)) room ⌝ }
 {
     if key.len() != 16 {
         return 1;
@@ -30,96 +88,36 @@ fn first_row(key: &[u8], text: &[u8], room: usize) -> u8
     0
 }
 
-fn encrypt_all(keys: &[u8; 176], sbox: &[u8; 256], text: &[u8], out: &mut [u8])
-    requires { ⌜ Expanded (now keys) ⌝ }
-    requires { ⌜ Tabulates (now sbox) sboxOf ⌝ }
-    requires { ⌜ length (now text) ≤ length (now out) ⌝ }
-    ensures { λ _. ⌜ now (out .exit) ≡ each (encrypt (keyOf (now (keys .entry)))) (firstBlocks (length (now (text .entry)) / 16) (now (text .entry))) ++ drop (length (now (text .entry)) / 16 * 16) (now (out .entry)) ⌝ }
-{
-    let n = text.len() / 16;
-    let mut i: usize = 0;
-    while i < n {
-        let at = i * 16;
-        let block = blocks::block::load(text, at);
-        let middle = aes_tables::forward::first_half(block, keys, sbox);
-        let whole = aes_tables::forward::second_half(middle, keys, sbox);
-        blocks::block::store(out, at, whole);
-        i += 1;
-    }
-}
-
-fn decrypt_all(keys: &[u8; 176], inv_sbox: &[u8; 256], text: &[u8], out: &mut [u8])
-    requires { ⌜ Expanded (now keys) ⌝ }
-    requires { ⌜ Tabulates (now «inv_sbox») invSbox ⌝ }
-    requires { ⌜ length (now text) ≤ length (now out) ⌝ }
-    ensures { λ _. ⌜ now (out .exit) ≡ each (decrypt (keyOf (now (keys .entry)))) (firstBlocks (length (now (text .entry)) / 16) (now (text .entry))) ++ drop (length (now (text .entry)) / 16 * 16) (now (out .entry)) ⌝ }
-{
-    let n = text.len() / 16;
-    let mut i: usize = 0;
-    while i < n {
-        let at = i * 16;
-        let block = blocks::block::load(text, at);
-        let middle = aes_tables::backward::inv_second_half(block, keys, inv_sbox);
-        let whole = aes_tables::backward::inv_first_half(middle, keys, inv_sbox);
-        blocks::block::store(out, at, whole);
-        i += 1;
-    }
-}
-
-// What both directions start from: the refusal or 0, and the key schedule where there is none.
-struct Started {
-    refusal: u8,
-    keys: [u8; 176],
-}
-
-// Clears the output, and refuses or makes the key schedule.
-fn start(key: &[u8], text: &[u8], out: &mut [u8]) -> Started
-    ensures answer { λ s. ⌜ Begun (now (key .entry)) (now (text .entry)) (length (now (out .entry))) (s .refusal) (s .keys) ⌝ }
-    ensures output { λ _. ⌜ now (out .exit) ≡ zeros (length (now (out .entry))) ⌝ }
+// Clears the output; then refuses, or makes the key schedule and does each block.
+fn call(direction: Direction, key: &[u8], text: &[u8], out: &mut [u8]) -> u8
+    ensures answer { λ n. ⌜ n ≡ refusalOf (now (key .entry)) (now (text .entry)) (length (now (out .entry))) ⌝ }
+    ensures output { λ _. ⌜ now (out .exit) ≡ output (cipherOf direction) (now (key .entry)) (now (text .entry)) (length (now (out .entry))) ⌝ }
 {
     blocks::block::clear(out);
-    let refusal = first_row(key, text, out.len());
-    if refusal != 0 {
-        return Started {
-            refusal,
-            keys: [0u8; 176],
-        };
+    let refused = refusal(key, text, out.len());
+    if refused != 0 {
+        return refused;
     }
     let k = blocks::block::load(key, 0);
-    let keys = aes_tables::key::expand(k);
-    Started { refusal: 0, keys }
+    let keys = cipher::expand(k);
+    each_block(direction, &keys, text, out);
+    0
 }
 
 // ENCRYPT each block.
 #[no_mangle]
 pub extern "C" fn aes_blocks_encrypt(key: &[u8], text: &[u8], out: &mut [u8]) -> u8
-    ensures answer { λ n. ⌜ n ≡ number ((eachBlock encrypt (now (key .entry)) (now (text .entry)) (length (now (out .entry)))) .answer) ⌝ }
-    ensures output { λ _. ⌜ now (out .exit) ≡ (eachBlock encrypt (now (key .entry)) (now (text .entry)) (length (now (out .entry)))) .output ⌝ }
+    ensures answer { λ n. ⌜ n ≡ refusalOf (now (key .entry)) (now (text .entry)) (length (now (out .entry))) ⌝ }
+    ensures output { λ _. ⌜ now (out .exit) ≡ output encrypt (now (key .entry)) (now (text .entry)) (length (now (out .entry))) ⌝ }
 {
-    let started = start(key, text, out);
-    let refusal = started.refusal;
-    let keys = started.keys;
-    if refusal != 0 {
-        return refusal;
-    }
-    let sbox = &aes_tables::sbox::SBOX;
-    encrypt_all(&keys, sbox, text, out);
-    0
+    call(Direction::Encrypt, key, text, out)
 }
 
 // DECRYPT each block.
 #[no_mangle]
 pub extern "C" fn aes_blocks_decrypt(key: &[u8], text: &[u8], out: &mut [u8]) -> u8
-    ensures answer { λ n. ⌜ n ≡ number ((eachBlock decrypt (now (key .entry)) (now (text .entry)) (length (now (out .entry)))) .answer) ⌝ }
-    ensures output { λ _. ⌜ now (out .exit) ≡ (eachBlock decrypt (now (key .entry)) (now (text .entry)) (length (now (out .entry)))) .output ⌝ }
+    ensures answer { λ n. ⌜ n ≡ refusalOf (now (key .entry)) (now (text .entry)) (length (now (out .entry))) ⌝ }
+    ensures output { λ _. ⌜ now (out .exit) ≡ output decrypt (now (key .entry)) (now (text .entry)) (length (now (out .entry))) ⌝ }
 {
-    let started = start(key, text, out);
-    let refusal = started.refusal;
-    let keys = started.keys;
-    if refusal != 0 {
-        return refusal;
-    }
-    let inv_sbox = &aes_tables::inv_sbox::INV_SBOX;
-    decrypt_all(&keys, inv_sbox, text, out);
-    0
+    call(Direction::Decrypt, key, text, out)
 }

@@ -1,5 +1,7 @@
 // Cases, counted where they agree.
+ghost use mathlib.Core.Path.{_≡_};
 ghost use Prim.Native.Nat.{_≤_};
+ghost use lib.ListN.{length};
 
 // One case, or none.
 pub fn one_if(agreed: bool) -> usize
@@ -11,27 +13,41 @@ pub fn one_if(agreed: bool) -> usize
 pub fn encrypts(key: [u8; 16], plain: [u8; 16], cipher: [u8; 16]) -> usize
     ensures { λ r. ⌜ r ≤ 1 ⌝ }
 {
-    one_if(blocks::block::equal(aes_tables::encrypt_block(key, plain), cipher))
+    let keys = cipher::expand(key);
+    one_if(blocks::block::equal(cipher::encrypt_block(plain, &keys), cipher))
 }
 
 pub fn decrypts(key: [u8; 16], plain: [u8; 16], cipher: [u8; 16]) -> usize
     ensures { λ r. ⌜ r ≤ 1 ⌝ }
 {
-    one_if(blocks::block::equal(aes_tables::decrypt_block(key, cipher), plain))
+    let keys = cipher::expand(key);
+    one_if(blocks::block::equal(cipher::decrypt_block(cipher, &keys), plain))
 }
 
 // ---- the state after round 5, where the two halves of the cipher meet
 
+// A group that has one block.
+fn group_of(block: [u8; 16]) -> [u64; groups::WORDS]
+    ensures { λ r. ⌜ length r ≡ 64 ⌝ }
+{
+    let mut group = [0u64; groups::WORDS];
+    groups::load(&block, 1, &mut group);
+    group
+}
+
 fn from_plaintext(key: [u8; 16], block: [u8; 16]) -> [u8; 16] {
-    let sbox = &aes_tables::sbox::SBOX;
-    let keys = aes_tables::key::expand(key);
-    aes_tables::forward::first_half(block, &keys, sbox)
+    let keys = cipher::expand(key);
+    let mut group = group_of(block);
+    let mut middle = [0u64; groups::WORDS];
+    cipher::encrypt(&mut group, &mut middle, 1, &keys);
+    blocks::words::to_bytes(groups::get(&middle, 0))
 }
 
 fn from_ciphertext(key: [u8; 16], block: [u8; 16]) -> [u8; 16] {
-    let inv_sbox = &aes_tables::inv_sbox::INV_SBOX;
-    let keys = aes_tables::key::expand(key);
-    aes_tables::backward::inv_second_half(block, &keys, inv_sbox)
+    let keys = cipher::expand(key);
+    let mut group = group_of(block);
+    cipher::middletexts(&mut group, 1, &keys);
+    blocks::words::to_bytes(groups::get(&group, 0))
 }
 
 // The first half from the plaintext comes to a state.

@@ -60,7 +60,7 @@ fn wide(x: u8) -> u32 {
 }
 
 // A word of the expanded key as a number, its first byte at the top.
-fn word(keys: &[u8; 176], i: usize) -> u32
+fn word(keys: &[u8; cipher::KEYS], i: usize) -> u32
     requires { ⌜ i < 44 ⌝ }
 {
     let at = i * 4;
@@ -72,7 +72,7 @@ fn word(keys: &[u8; 176], i: usize) -> u32
 
 pub fn key_expansion() -> usize {
     let words = &WORDS;
-    let keys = aes_tables::key::expand(block(b"2b7e151628aed2a6abf7158809cf4f3c"));
+    let keys = cipher::expand(block(b"2b7e151628aed2a6abf7158809cf4f3c"));
     let mut agreed: usize = 0;
     for i in 0..44 {
         agreed += one_if(word(&keys, i) == words[i]);

@@ -1,4 +1,4 @@
--- The laws that callers cite. Numbers: Xor, Linear, Field, Square. Lists: XorBytes, Same, Tab, Chunks, Array, Zeros. Blocks as
+-- The laws that callers cite. Numbers: Xor, Linear, Field, Square. Lists: XorBytes, Same, Tab, Chunks, Array, Zeros, Parts. Blocks as
 -- polynomials: TimesX, OverX, JumpBy, Num, Product. Two words for a block: Bridge; how the code works in words: WordsX, Spread, Jump,
 -- Horner. Sign: a signed number as the machine reads it. Test: a rule of many numbers by one computed test.
 pub mod Test
@@ -10,6 +10,7 @@ pub mod Tab
 pub mod Chunks
 pub mod Array
 pub mod Zeros
+pub mod Parts
 pub mod Field
 pub mod Square
 pub mod TimesX

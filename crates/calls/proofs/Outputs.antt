@@ -7,7 +7,7 @@ use native.Mathlib.Omega.{arith}
 use lib.ListN.{length, take, drop, length-drop}
 use lib.Seq.{take-at, drop-at, drop-append-add, take-all}
 use Rattle.blocks.specs.Bytes.{zeros}
-use Rattle.runs.proofs.Parts.{drop-all}
+use Rattle.blocks.proofs.Parts.{drop-all}
 use Rattle.calls.specs.Layout.{Fresh}
 use Rattle.blocks.proofs.Zeros.{drop-zeros, length-zeros, zeros-append}
 
@@ -45,16 +45,6 @@ module _ (text out : List ℕ) (size left : ℕ) (l : length text ≡ size) (e :
       (en ∙ ap (λ (k : ℕ). zeros (length (take k out))) z ∙ ap zeros (ap length front-is ∙ l))
       (ap (λ (k : ℕ). drop k out) z ∙ ap (drop size) e ∙ drop-at text (zeros left) size l)
       ∙ zeros-append size left
-
-  module _ (new output : List ℕ) (h : size % 16 ≡ 0) (en : new ≡ output ++ drop (length (take size out) / 16 * 16) (take size out)) where
-    all-new : new ≡ output
-    all-new =
-        let n : length (take size out) ≡ size = ap length front-is ∙ l in
-        let k : length (take size out) / 16 * 16 ≡ length (take size out) = omega arith in
-        en ∙ ap (λ (y : List ℕ). output ++ y) (ap (λ (m : ℕ). drop m (take size out)) k ∙ drop-all (take size out)) ∙ append-nil output
-
-    pub worked : new ++ drop size out ≡ output ++ zeros left
-    worked = ap₂ (λ (x y : List ℕ). x ++ y) all-new (ap (drop size) e ∙ drop-at text (zeros left) size l)
 
 -- ---- an output of zeros, written to the front
 

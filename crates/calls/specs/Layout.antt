@@ -1,4 +1,4 @@
--- A run laid out in an output that holds zeros.
+-- A run as it is sealed, with the padding of a last run; an output that holds zeros.
 use mathlib.Core.Path.{_≡_}
 use mathlib.Core.Bool.{Bool, true, false}
 use mathlib.Core.List.{List}

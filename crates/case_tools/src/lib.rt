@@ -2,6 +2,7 @@
 pub mod hex; // hex.rt: bytes from hexadecimal digits
 pub mod bytes; // bytes.rt: what a case compares
 pub mod random; // random.rt: a generator
+pub mod aes; // aes.rt: the cipher, one block at a time
 pub mod paper; // paper.rt: the key and the IV of the mode's paper
 pub mod open; // open.rt: a record opened, and its answer compared
 

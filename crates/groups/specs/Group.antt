@@ -2,7 +2,7 @@
 -- bytes.
 use mathlib.Core.Path.{_≡_}
 use mathlib.Core.List.{List, [], _++_}
-use Prim.Native.Nat.{ℕ, zero, suc, _+_, _*_, _<_}
+use Prim.Native.Nat.{ℕ, zero, suc, _+_, _*_, _≤_, _<_}
 use lib.ListN.{length, getD, take, drop}
 use Rattle.blocks.specs.Words.{bytesOf}
 
@@ -33,3 +33,9 @@ pub record Put (i : ℕ) (b old new : List ℕ) : Type 0 where
   pub long : length new ≡ 64
   pub there : blockAt new i ≡ b
   pub others : (j : ℕ) → (j ≡ i → ⊥) → blockAt new j ≡ blockAt old j
+
+-- some of the blocks that are left
+pub record InGroup (left n : ℕ) : Type 0 where
+  pub some : 0 < n
+  pub within : n ≤ left
+  pub fits : n ≤ 32

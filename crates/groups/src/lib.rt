@@ -5,12 +5,20 @@ ghost use Prim.Native.Nat.{_*_, _<_, _≤_};
 ghost use lib.ListN.{length};
 ghost use Rattle.blocks.specs.Bytes.{xorBytes};
 ghost use Rattle.blocks.specs.Words.{bytesOf};
-ghost use Rattle.groups.specs.Group.{blockAt, blockOf, Holds, Put, inFront};
+ghost use Rattle.groups.specs.Group.{blockAt, blockOf, Holds, Put, InGroup, inFront};
 
 // The blocks of a group, and its words.
 pub const BLOCKS: usize = 32;
 
 pub const WORDS: usize = 64;
+
+// How many of the blocks that are left go into the next group.
+pub fn in_group(left: usize) -> usize
+    requires { ⌜ 0 < left ⌝ }
+    ensures { λ n. ⌜ InGroup left n ⌝ }
+{
+    if BLOCKS < left { BLOCKS } else { left }
+}
 
 // Block i.
 pub fn get(group: &[u64; WORDS], i: usize) -> Words

@@ -37,12 +37,6 @@ unfoldable pub takenUp : ℕ → (ℕ → List ℕ) → List ℕ → List ℕ
 takenUp zero middle p = p
 takenUp (suc n) middle p = xorBytes (timesX (takenUp n middle p)) (middle n)
 
--- some of the blocks that are left, at most 32, and at least one where one is left
-pub record InGroup (left n : ℕ) : Type 0 where
-  pub fits : n ≤ 32
-  pub within : n ≤ left
-  pub some : 0 < left → 0 < n
-
 -- n blocks of a text done, from a mask and a pre-authenticator: what they come to, and an output from the offset `at` on, which held `old`
 -- and now holds `new`
 pub record Done (task : Task) (n : ℕ) (key text mask p : List ℕ) (at : ℕ) (old new mask′ p′ : List ℕ) : Type 0 where

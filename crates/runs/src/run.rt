@@ -9,7 +9,7 @@ ghost use Rattle.blocks.specs.Words.{bytesOf};
 ghost use Rattle.cipher.specs.Keys.{keyOf, Expanded};
 ghost use Rattle.mode.specs.Mode.{padded, zeroBlock};
 ghost use Rattle.runs.specs.Task.{writes as writesOf, wrote};
-ghost use Rattle.runs.specs.Group.{Through, Stored, InGroup, Done};
+ghost use Rattle.runs.specs.Group.{Through, Stored, Done};
 ghost use Rattle.runs.specs.Run.{ran, Ran, Room};
 
 // What is done with the blocks of a text: plaintext is sealed, ciphertext opened, or only checked.
@@ -113,17 +113,6 @@ fn step(
 
 // ---- a run
 
-// How many of the blocks that are left go into the next group.
-fn in_group(left: usize) -> usize
-    ensures { λ n. ⌜ InGroup left n ⌝ }
-{
-    if groups::BLOCKS < left {
-        groups::BLOCKS
-    } else {
-        left
-    }
-}
-
 // RUN over the first `count` blocks of a text with its padding, from the mask of the first one. What is written goes to the front of an output; a check writes nothing.
 pub fn run(
     task: Task,
@@ -144,7 +133,7 @@ pub fn run(
     };
     let mut i: usize = 0;
     while i < count {
-        let n = in_group(count - i);
+        let n = groups::in_group(count - i);
         let at = i * 16;
         let next = step(task, chain, keys, &text[at..], n, at, out);
         chain = next;

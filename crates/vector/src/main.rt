@@ -28,9 +28,8 @@ fn print_line(label: &[u8], block: [u8; 16]) {
 }
 
 fn start_mask(key: [u8; 16], iv: [u8; 16]) -> Words {
-    let sbox = &aes_tables::sbox::SBOX;
-    let keys = aes_tables::key::expand(key);
-    runs::mask::start_mask(iv, &keys, sbox)
+    let keys = cipher::expand(key);
+    runs::mask::start_mask(iv, &keys)
 }
 
 // The block goes through a middle run at block 0. The pre-authenticator of one block is its middletext.

@@ -9,7 +9,7 @@ use lib.ListN.{take, length-drop}
 use lib.Seq.{take-take, length-take-le}
 use Rattle.blocks.specs.Bytes.{zeros}
 use Rattle.calls.proofs.Opening.{end-within, nothing-released, message-released}
-use Rattle.runs.proofs.Parts.{back-is, back-put}
+use Rattle.blocks.proofs.Parts.{back-is, back-put}
 use Rattle.calls.proofs.open.release.Statement.{statement}
 use Rattle.calls.proofs.open.release.Tie as tie
 

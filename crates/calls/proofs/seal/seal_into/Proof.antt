@@ -16,7 +16,7 @@ use Rattle.mode.proofs.Aes.{aes-lawful}
 use Rattle.mode.proofs.Blocks.{long-blocks, length-padded, count-last}
 use Rattle.mode.proofs.SealedLength.{unbroken-output-long}
 use Rattle.cipher.specs.Keys.{keyOf}
-use Rattle.runs.proofs.Parts.{back-is, back-put}
+use Rattle.blocks.proofs.Parts.{back-is, back-put}
 use Rattle.calls.specs.Layout.{laidOut, laidOutLength}
 use Rattle.blocks.proofs.Zeros.{length-zeros}
 use Rattle.calls.proofs.Outputs.{fresh, whole-16, stored-front, stored-after}

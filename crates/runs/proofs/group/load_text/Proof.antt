@@ -8,7 +8,7 @@ use lib.ListN.{length, drop}
 use Rattle.groups.specs.Group.{blockOf}
 use Rattle.groups.proofs.Loop.{holds-as, turn, ends}
 use Rattle.mode.specs.Mode.{padded}
-use Rattle.runs.proofs.Parts.{back-is}
+use Rattle.blocks.proofs.Parts.{back-is}
 use Rattle.runs.proofs.Text.{whole-block, last-block}
 use Rattle.runs.proofs.group.load_text.Statement.{statement}
 use Rattle.runs.proofs.group.load_text.Tie as tie

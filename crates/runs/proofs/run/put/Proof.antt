@@ -7,7 +7,8 @@ use native.Mathlib.Omega.{arith}
 use lib.ListN.{length, take, length-drop}
 use Rattle.groups.specs.Group.{inFront}
 use Rattle.runs.specs.Group.{Stored}
-use Rattle.runs.proofs.Parts.{back-is, back-put, where-true, where-false}
+use Rattle.blocks.proofs.Parts.{back-is, back-put}
+use Rattle.runs.proofs.Where.{where-true, where-false}
 use Rattle.runs.proofs.run.put.Statement.{statement}
 use Rattle.runs.proofs.run.put.Tie as tie
 

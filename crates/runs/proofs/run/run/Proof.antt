@@ -10,7 +10,7 @@ use Rattle.blocks.specs.Words.{bytesOf}
 use Rattle.cipher.specs.Keys.{keyOf}
 use Rattle.mode.specs.Mode.{padded}
 use Rattle.runs.specs.Group.{Done}
-use Rattle.runs.proofs.Parts.{back-is}
+use Rattle.blocks.proofs.Parts.{back-is}
 use Rattle.runs.proofs.Text.{padded-behind}
 use Rattle.runs.proofs.Groups.{none-done, more-done, done-as}
 use Rattle.runs.proofs.Walk.{done-ran}
@@ -72,8 +72,7 @@ loop-less : tie.Need-loop-less Inv-loop μ-loop
 loop-less c =
     let g = c .before .before .before .before .before .in-group .ensures in
     let t : c .before .before .before .before .before .before .before .loop .i < c .before .before .before .before .before .before .before .before .before .before .args .count = c .before .before .before .before .before .before .loop-test .taken in
-    let p = g .some (omega (arith, t)) in
-    omega (arith, p, t, g .within)
+    omega (arith, g .some, t, g .within)
 
 loop-again : tie.Need-loop-again Inv-loop μ-loop
 loop-again c =

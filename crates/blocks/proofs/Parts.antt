@@ -1,6 +1,5 @@
--- The part of a slice from the n-th byte on, and what is written where a test says so.
+-- The part of a slice from the n-th byte on, lent and put back.
 use mathlib.Core.Path.{_≡_, refl, sym, ap, _∙_}
-use mathlib.Core.Bool.{Bool, true, false, cond}
 use mathlib.Core.List.{List, [], _∷_, _++_, append-nil}
 use Prim.Native.Nat.{ℕ, _-_}
 use native.Mathlib.Nat.{le-of-eq}
@@ -18,11 +17,3 @@ pub back-put : (n : ℕ) (old new : List ℕ) → take n old ++ (new ++ drop (le
 back-put n old new =
     ap (λ (z : List ℕ). take n old ++ (new ++ z)) (ap (λ (k : ℕ). drop k (drop n old)) (sym (length-drop n old)) ∙ drop-all (drop n old))
     ∙ ap (λ (z : List ℕ). take n old ++ z) (append-nil new)
-
--- ---- written, or not
-
-pub where-true : (w : Bool) (x y new : List ℕ) → w ≡ true → new ≡ x → new ≡ cond w x y
-where-true w x y new e h = h ∙ sym (ap (λ (b : Bool). cond b x y) e)
-
-pub where-false : (w : Bool) (x y new : List ℕ) → w ≡ false → new ≡ y → new ≡ cond w x y
-where-false w x y new e h = h ∙ sym (ap (λ (b : Bool). cond b x y) e)
