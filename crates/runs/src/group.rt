@@ -77,7 +77,7 @@ pub(crate) fn load(
 {
     load_text(text, n, group);
     let next = fill(mask, n, masks);
-    groups::xor(group, masks, n);
+    groups::xor(group, masks, n); // masked on the way in
     next
 }
 
@@ -114,6 +114,6 @@ pub(crate) fn store(
     requires { ⌜ n * 16 ≤ length (now out) ⌝ }
     ensures { λ _. ⌜ now (out .exit) ≡ inFront n (λ i. xorBytes (blockAt (now (group .entry)) i) (blockAt (now (masks .entry)) i)) (now (out .entry)) ⌝ }
 {
-    groups::xor(group, masks, n);
+    groups::xor(group, masks, n); // and on the way out
     groups::store(group, n, out);
 }
