@@ -2,33 +2,16 @@
 
        bench ROUNDS [CHART.svg]
 */
-#define _POSIX_C_SOURCE 200809L
 #include "report.h"
 #include "tables.h"
+#include "timing.h"
 
 #include <stdio.h>
 #include <stdlib.h>
-#include <time.h>
 
 static const struct contestant *const contestants[CONTESTANTS] = {&ours, &bytes_o3, &bytes_no_slp, &words};
 static work *const tasks[TASKS] = {seal_list, open_list, check_list, encrypt_blocks, decrypt_blocks};
 static work *const tasks_under_zeros[MODE_TASKS] = {seal_under_zeros, open_under_zeros, check_under_zeros};
-
-static double now(void) {
-    struct timespec t;
-    clock_gettime(CLOCK_MONOTONIC, &t);
-    return 1e9 * (double)t.tv_sec + (double)t.tv_nsec;
-}
-
-/* Does the work `turns` times, and keeps the time of one turn where it is the best so far. */
-static void measure(double *best, int turns, work *do_it, const struct contestant *who, size_t blocks) {
-    double start = now();
-    for (int turn = 0; turn < turns; turn++)
-        do_it(who, blocks);
-    double took = (now() - start) / turns;
-    if (*best == 0 || took < *best)
-        *best = took;
-}
 
 static void measure_threads(struct figures *f) {
     measure(&f->one_thread, 1, seal_on_one_thread, NULL, 1);

@@ -1,4 +1,4 @@
-// AES-128 of each block of a slice by itself, for programs in C and Rust: to compare the engine with others, and to measure it. It is no
+// AES-128 of each block of a slice by itself, for programs in C and Rust: to compare it with others, and to measure it. It is no
 // mode: equal blocks give equal blocks.
 ghost use mathlib.Core.Path.{_≡_};
 ghost use mathlib.Core.List.{_++_};

@@ -13,6 +13,7 @@ mod closing;
 mod cuts;
 mod damage;
 mod documentation;
+mod groups;
 mod joining;
 mod jumping;
 #[cfg(not(bare_cipher))]

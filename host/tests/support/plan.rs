@@ -37,11 +37,13 @@ pub const NEAR_NO_MASK: Topic = topic("next to a mask of nothing", 23, 7_000);
 pub const WORDS_JUMPED: Topic = topic("jumping in 64-bit words", 24, 50_000);
 pub const WORDS_JOINED: Topic = topic("joining in 64-bit words", 25, 100_000);
 pub const WORDS_SEALED: Topic = topic("runs and tags in 64-bit words", 26, 10_000);
+pub const GROUPS: Topic = topic("every number of blocks", 27, 3_900);
+pub const GROUPS_DAMAGED: Topic = topic("every block damaged", 28, 6_200);
 
 /// How many cuts each of their two topics has.
 pub const CUTS: usize = 12_000;
 
-const ALL: [Topic; 26] = [
+const ALL: [Topic; 28] = [
     SEALING,
     SEALING_EDGES,
     OPENING,
@@ -68,6 +70,8 @@ const ALL: [Topic; 26] = [
     WORDS_JUMPED,
     WORDS_JOINED,
     WORDS_SEALED,
+    GROUPS,
+    GROUPS_DAMAGED,
 ];
 
 /// Each topic's test sees that it made its number of calls.
