@@ -71,8 +71,7 @@ add-i c = let g = c .before .before .before .before .before .in-group .ensures i
 loop-less : tie.Need-loop-less Inv-loop μ-loop
 loop-less c =
     let g = c .before .before .before .before .before .in-group .ensures in
-    let t : c .before .before .before .before .before .before .before .loop .i < c .before .before .before .before .before .before .before .before .before .before .args .count = c .before .before .before .before .before .before .loop-test .taken in
-    omega (arith, g .some, t, g .within)
+    omega (arith, g .some, g .within, c .before .before .before .before .before .before .loop-test .taken)
 
 loop-again : tie.Need-loop-again Inv-loop μ-loop
 loop-again c =
