@@ -9,10 +9,10 @@ use Rattle.blocks.specs.Bytes.{firstBlocks}
 use Rattle.blocks.proofs.Chunks.{length-blocks}
 use Rattle.groups.specs.Group.{blockOf, inFront}
 use Rattle.groups.proofs.Front.{front-blocks}
-use Rattle.fips197.proofs.Lengths.{AllLong, long-firstBlocks, length-firstHalf, length-secondHalf, length-invFirstHalf, length-invSecondHalf}
+use Rattle.fips197.proofs.Lengths.{AllLong, long-firstBlocks, length-firstHalf, length-secondHalf, length-invFirstHalf}
 use Rattle.aes_tables.specs.Half.{halfOf, tabled, TableOf}
 use Rattle.aes_tables.specs.declared.group.Half.{Half}
-use Rattle.aes_tables.specs.declared.group.Half.the-variants.{First, Second, InvFirst, InvSecond}
+use Rattle.aes_tables.specs.declared.group.Half.the-variants.{First, Second, InvFirst}
 
 pub table-as : (which half : Half) (table : List ℕ) → which ≡ half → TableOf which table → TableOf half table
 table-as which half table e t = subst (λ (h : Half). TableOf h table) e t
@@ -38,7 +38,6 @@ module _ (keys : List ℕ) (long : length keys ≡ 176) where
   length-half First s e = length-firstHalf 5 10 (firstBlocks 11 keys) all-long eleven s e
   length-half Second s e = length-secondHalf 5 10 (firstBlocks 11 keys) all-long eleven s
   length-half InvFirst s e = length-invFirstHalf 5 10 (firstBlocks 11 keys) all-long eleven s e
-  length-half InvSecond s e = length-invSecondHalf 5 10 (firstBlocks 11 keys) s
 
   -- each block of a text taken through a half
   pub halved : (half : Half) (n : ℕ) (b : ℕ → List ℕ) (old new : List ℕ) → ((i : ℕ) → length (b i) ≡ 16) → ((i : ℕ) → i < n → blockOf old i ≡ b i)

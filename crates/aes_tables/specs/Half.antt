@@ -1,25 +1,23 @@
 -- The halves that a group goes through, and what each asks of the table that it is lent.
 use mathlib.Core.List.{List}
 use Prim.Native.Nat.{ℕ}
-use Rattle.fips197.specs.Cipher.{firstHalf, secondHalf, invFirstHalf, invSecondHalf}
+use Rattle.fips197.specs.Cipher.{firstHalf, secondHalf, invFirstHalf}
 use Rattle.fips197.specs.Sbox.{sbox, invSbox}
 use Rattle.aes_tables.specs.Table.{Tabulates}
 -- as the code declares them
 use Rattle.aes_tables.specs.declared.group.Half.{Half}
-use Rattle.aes_tables.specs.declared.group.Half.the-variants.{First, Second, InvFirst, InvSecond}
+use Rattle.aes_tables.specs.declared.group.Half.the-variants.{First, Second, InvFirst}
 
--- document 01's halves, and these run backwards: by the round keys, then the block
+-- document 01's halves, and the first run backwards: by the round keys, then the block
 unfoldable pub halfOf : Half → List (List ℕ) → List ℕ → List ℕ
 halfOf First ks s = firstHalf 5 ks s
 halfOf Second ks s = secondHalf 5 10 ks s
 halfOf InvFirst ks s = invFirstHalf 5 ks s
-halfOf InvSecond ks s = invSecondHalf 5 10 ks s
 
 unfoldable pub tabled : Half → ℕ → ℕ
 tabled First = sbox
 tabled Second = sbox
 tabled InvFirst = invSbox
-tabled InvSecond = invSbox
 
 abbrev pub TableOf : Half → List ℕ → Type 0
 TableOf half table = Tabulates table (tabled half)

@@ -1,20 +1,22 @@
-// A group of blocks through the cipher. The engine takes bytes, so a group is laid out in bytes first; then one half goes over all its blocks
-// before the other begins, since blocks that do not wait for each other are worked on at the same time.
+// A group of blocks through the cipher, one half over all its blocks before the other begins: the rounds of one block wait for each other, those
+// of two blocks do not. The engine takes bytes, so blocks lie in bytes between the halves. Where the second half is undone they come out of
+// their words one at a time: those rounds are compiled into work on single bytes, which words give as they are.
 ghost use mathlib.Core.Path.{_≡_};
 ghost use mathlib.Core.List.{_++_};
 ghost use Prim.Native.Nat.{_+_, _*_, _≤_};
 ghost use lib.ListN.{length, take, drop};
 ghost use Rattle.blocks.specs.Bytes.{firstBlocks};
 ghost use Rattle.groups.specs.Group.{blockAt, blockOf, Holds, inFront};
+ghost use Rattle.fips197.specs.Sbox.{invSbox};
 ghost use Rattle.fips197.specs.Cipher.{firstHalf, secondHalf, invFirstHalf, invSecondHalf};
+ghost use Rattle.aes_tables.specs.Table.{Tabulates};
 ghost use Rattle.aes_tables.specs.Half.{halfOf, TableOf};
 
-// A half of the cipher, or a half run backwards.
+// The halves that blocks in bytes go through.
 pub enum Half {
     First,
     Second,
     InvFirst,
-    InvSecond,
 }
 
 // The block of a slice at an offset goes through a half.
@@ -38,10 +40,6 @@ fn one(which: Half, text: &mut [u8], at: usize, keys: &[u8; 176], table: &[u8; 2
             let after = crate::backward::inv_first_half(block, keys, table);
             blocks::block::store(text, at, after);
         }
-        Half::InvSecond => {
-            let after = crate::backward::inv_second_half(block, keys, table);
-            blocks::block::store(text, at, after);
-        }
     }
 }
 
@@ -59,33 +57,9 @@ fn each(which: Half, text: &mut [u8], n: usize, keys: &[u8; 176], table: &[u8; 2
     }
 }
 
-// Through one half, whose results go to `middle`, and on through another.
-fn through(
-    one: Half,
-    other: Half,
-    group: &mut [u64; groups::WORDS],
-    middle: &mut [u64; groups::WORDS],
-    n: usize,
-    keys: &[u8; 176],
-    table: &[u8; 256],
-)
-    requires { ⌜ length (now group) ≡ 64 ⌝ }
-    requires { ⌜ length (now middle) ≡ 64 ⌝ }
-    requires { ⌜ n ≤ 32 ⌝ }
-    requires { ⌜ length (now keys) ≡ 176 ⌝ }
-    requires { ⌜ TableOf one (now table) ⌝ }
-    requires { ⌜ TableOf other (now table) ⌝ }
-    ensures middle { λ _. ⌜ Holds n (λ i. halfOf one (firstBlocks 11 (now (keys .entry))) (blockAt (now (group .entry)) i)) (now (middle .exit)) ⌝ }
-    ensures group { λ _. ⌜ Holds n (λ i. halfOf other (firstBlocks 11 (now (keys .entry))) (halfOf one (firstBlocks 11 (now (keys .entry))) (blockAt (now (group .entry)) i))) (now (group .exit)) ⌝ }
-{
-    let mut text = [0u8; 512];
-    groups::store(group, n, &mut text);
-    each(one, &mut text, n, keys, table);
-    groups::load(&text, n, middle);
-    each(other, &mut text, n, keys, table);
-    groups::load(&text, n, group);
-}
+// ---- forwards
 
+// n blocks of a group through both halves. `middle` gets what the first gives.
 pub fn encrypt(
     group: &mut [u64; groups::WORDS],
     middle: &mut [u64; groups::WORDS],
@@ -100,9 +74,41 @@ pub fn encrypt(
     ensures group { λ _. ⌜ Holds n (λ i. secondHalf 5 10 (firstBlocks 11 (now (keys .entry))) (firstHalf 5 (firstBlocks 11 (now (keys .entry))) (blockAt (now (group .entry)) i))) (now (group .exit)) ⌝ }
 {
     let sbox = &crate::sbox::SBOX;
-    through(Half::First, Half::Second, group, middle, n, keys, sbox);
+    let mut text = [0u8; 512];
+    groups::store(group, n, &mut text);
+    each(Half::First, &mut text, n, keys, sbox);
+    groups::load(&text, n, middle);
+    each(Half::Second, &mut text, n, keys, sbox);
+    groups::load(&text, n, group);
 }
 
+// ---- backwards
+
+// n blocks of a group with the second half undone, to the front of a slice.
+fn undo_second(
+    group: &[u64; groups::WORDS],
+    n: usize,
+    keys: &[u8; 176],
+    inv_sbox: &[u8; 256],
+    text: &mut [u8],
+)
+    requires { ⌜ n ≤ 32 ⌝ }
+    requires { ⌜ length (now keys) ≡ 176 ⌝ }
+    requires { ⌜ Tabulates (now «inv_sbox») invSbox ⌝ }
+    requires { ⌜ n * 16 ≤ length (now text) ⌝ }
+    ensures { λ _. ⌜ now (text .exit) ≡ inFront n (λ i. invSecondHalf 5 10 (firstBlocks 11 (now (keys .entry))) (blockAt (now (group .entry)) i)) (now (text .entry)) ⌝ }
+{
+    let mut i: usize = 0;
+    while i < n {
+        let w = groups::get(group, i);
+        let block = blocks::words::to_bytes(w);
+        let middle = crate::backward::inv_second_half(block, keys, inv_sbox);
+        blocks::block::store(text, i * 16, middle);
+        i += 1;
+    }
+}
+
+// n blocks of a group with both halves undone. `middle` gets what the second leaves.
 pub fn decrypt(
     group: &mut [u64; groups::WORDS],
     middle: &mut [u64; groups::WORDS],
@@ -117,18 +123,14 @@ pub fn decrypt(
     ensures group { λ _. ⌜ Holds n (λ i. invFirstHalf 5 (firstBlocks 11 (now (keys .entry))) (invSecondHalf 5 10 (firstBlocks 11 (now (keys .entry))) (blockAt (now (group .entry)) i))) (now (group .exit)) ⌝ }
 {
     let inv_sbox = &crate::inv_sbox::INV_SBOX;
-    through(
-        Half::InvSecond,
-        Half::InvFirst,
-        group,
-        middle,
-        n,
-        keys,
-        inv_sbox,
-    );
+    let mut text = [0u8; 512];
+    undo_second(group, n, keys, inv_sbox, &mut text);
+    groups::load(&text, n, middle);
+    each(Half::InvFirst, &mut text, n, keys, inv_sbox);
+    groups::load(&text, n, group);
 }
 
-// The middletexts of ciphertext.
+// n blocks of a group with the second half undone: the middletexts of ciphertext.
 pub fn middletexts(group: &mut [u64; groups::WORDS], n: usize, keys: &[u8; 176])
     requires { ⌜ length (now group) ≡ 64 ⌝ }
     requires { ⌜ n ≤ 32 ⌝ }
@@ -136,8 +138,13 @@ pub fn middletexts(group: &mut [u64; groups::WORDS], n: usize, keys: &[u8; 176])
     ensures { λ _. ⌜ Holds n (λ i. invSecondHalf 5 10 (firstBlocks 11 (now (keys .entry))) (blockAt (now (group .entry)) i)) (now (group .exit)) ⌝ }
 {
     let inv_sbox = &crate::inv_sbox::INV_SBOX;
-    let mut text = [0u8; 512];
-    groups::store(group, n, &mut text);
-    each(Half::InvSecond, &mut text, n, keys, inv_sbox);
-    groups::load(&text, n, group);
+    let mut i: usize = 0;
+    while i < n {
+        let w = groups::get(group, i);
+        let block = blocks::words::to_bytes(w);
+        let middle = crate::backward::inv_second_half(block, keys, inv_sbox);
+        let m = blocks::words::from_bytes(middle);
+        groups::put(group, i, m);
+        i += 1;
+    }
 }

@@ -16,13 +16,13 @@ use Rattle.groups.proofs.Front.{length-inTurn, length-blockAt, turn-as, turn-ad
 use Rattle.mode.specs.Mode.{padded}
 use Rattle.mode.proofs.Laws.{xor-long}
 use Rattle.runs.specs.Task.{toMiddle, fromMiddle, writes, middleAt, outputAt}
-use Rattle.runs.specs.Group.{Loaded, Through, Stored, takenUp, Done}
+use Rattle.runs.specs.Group.{Masked, Through, Stored, takenUp, Done}
 use Rattle.runs.specs.declared.run.Task.{Task}
 use Rattle.runs.proofs.Taken.{taken-as, taken-add}
 
 -- ---- a group
 
-module _ (task : Task) (n : ℕ) (key text mask p : List ℕ) (group masks next group′ middle : List ℕ) (l : Loaded n text mask group masks next)
+module _ (task : Task) (n : ℕ) (key text mask p : List ℕ) (group masks next group′ middle : List ℕ) (l : Masked n (blockOf (padded text)) mask group masks next)
     (t : Through task n key group group′ middle) where
   middle-is : (i : ℕ) → i < n → blockAt middle i ≡ middleAt task key (padded text) mask i
   unfolding middleAt
@@ -30,7 +30,7 @@ module _ (task : Task) (n : ℕ) (key text mask p : List ℕ) (group masks next 
 
   output-is : (i : ℕ) → i < n → xorBytes (blockAt group′ i) (blockAt masks i) ≡ outputAt task key (padded text) mask i
   unfolding outputAt middleAt
-  output-is i h = ap₂ xorBytes (t .blocks .at i h ∙ ap (λ (x : List ℕ). fromMiddle task key (toMiddle task key x)) (l .blocks .at i h)) (l .filled .at i h)
+  output-is i h = ap₂ xorBytes (t .blocks .at i h ∙ ap (λ (x : List ℕ). fromMiddle task key (toMiddle task key x)) (l .blocks .at i h)) (l .kept .at i h)
 
   pub group-done : (at : ℕ) (old new p′ : List ℕ) → Stored task n group′ masks at old new → p′ ≡ takenUp n (blockAt middle) p
       → Done task n key (padded text) mask p at old new next p′

@@ -11,15 +11,10 @@ use Rattle.mode.specs.Mode.{padded}
 use Rattle.runs.specs.Task.{toMiddle, fromMiddle, writes, middleAt, outputAt}
 use Rattle.runs.specs.declared.run.Task.{Task}
 
--- n masks from this one on, and the one after them
-pub record Filled (n : ℕ) (mask masks next : List ℕ) : Type 0 where
-  pub filled : Holds n (λ i. jump i mask) masks
-  pub after : next ≡ jump n mask
-
--- the first n blocks of a text with its padding, each plus its mask; the masks; and the one after them
-pub record Loaded (n : ℕ) (text mask group masks next : List ℕ) : Type 0 where
-  pub blocks : Holds n (λ i. xorBytes (blockOf (padded text) i) (jump i mask)) group
-  pub filled : Holds n (λ i. jump i mask) masks
+-- n blocks, each plus its mask, from this mask on; the masks; and the one after them
+pub record Masked (n : ℕ) (b : ℕ → List ℕ) (mask group masks next : List ℕ) : Type 0 where
+  pub blocks : Holds n (λ i. xorBytes (b i) (jump i mask)) group
+  pub kept : Holds n (λ i. jump i mask) masks
   pub after : next ≡ jump n mask
 
 -- n blocks through the cipher

@@ -8,7 +8,7 @@ ghost use Rattle.blocks.specs.Gf128.{jump};
 ghost use Rattle.blocks.specs.Words.{bytesOf};
 ghost use Rattle.groups.specs.Group.{blockAt, blockOf, Holds, inFront};
 ghost use Rattle.mode.specs.Mode.{padded};
-ghost use Rattle.runs.specs.Group.{Loaded, Filled, takenUp};
+ghost use Rattle.runs.specs.Group.{Masked, takenUp};
 
 // ---- load
 
@@ -44,15 +44,24 @@ fn load_text(text: &[u8], n: usize, group: &mut [u64; groups::WORDS])
     groups::put(group, whole, last);
 }
 
-// n masks from this one on. The answer is the mask after them.
-fn fill(mask: Words, n: usize, masks: &mut [u64; groups::WORDS]) -> Words
+// n blocks masked, the first with this mask, each next one with the mask times x. The masks are kept; the answer is the mask after them.
+fn mask_each(
+    mask: Words,
+    n: usize,
+    group: &mut [u64; groups::WORDS],
+    masks: &mut [u64; groups::WORDS],
+) -> Words
     requires { ⌜ n ≤ 32 ⌝ }
+    requires { ⌜ length (now group) ≡ 64 ⌝ }
     requires { ⌜ length (now masks) ≡ 64 ⌝ }
-    ensures { λ w. ⌜ Filled n (bytesOf mask) (now (masks .exit)) (bytesOf w) ⌝ }
+    ensures { λ w. ⌜ Masked n (blockAt (now (group .entry))) (bytesOf mask) (now (group .exit)) (now (masks .exit)) (bytesOf w) ⌝ }
 {
     let mut m = mask;
     let mut i: usize = 0;
     while i < n {
+        let block = groups::get(group, i);
+        let masked = blocks::words::xor(block, m);
+        groups::put(group, i, masked);
         groups::put(masks, i, m);
         let next = blocks::gf128::times_x(m);
         m = next;
@@ -73,12 +82,10 @@ pub(crate) fn load(
     requires { ⌜ n ≤ length (now text) / 16 + 1 ⌝ }
     requires { ⌜ length (now group) ≡ 64 ⌝ }
     requires { ⌜ length (now masks) ≡ 64 ⌝ }
-    ensures { λ w. ⌜ Loaded n (now (text .entry)) (bytesOf mask) (now (group .exit)) (now (masks .exit)) (bytesOf w) ⌝ }
+    ensures { λ w. ⌜ Masked n (blockOf (padded (now (text .entry)))) (bytesOf mask) (now (group .exit)) (now (masks .exit)) (bytesOf w) ⌝ }
 {
     load_text(text, n, group);
-    let next = fill(mask, n, masks);
-    groups::xor(group, masks, n); // masked on the way in
-    next
+    mask_each(mask, n, group, masks)
 }
 
 // ---- take up
@@ -114,6 +121,6 @@ pub(crate) fn store(
     requires { ⌜ n * 16 ≤ length (now out) ⌝ }
     ensures { λ _. ⌜ now (out .exit) ≡ inFront n (λ i. xorBytes (blockAt (now (group .entry)) i) (blockAt (now (masks .entry)) i)) (now (out .entry)) ⌝ }
 {
-    groups::xor(group, masks, n); // and on the way out
+    groups::xor(group, masks, n);
     groups::store(group, n, out);
 }

@@ -1,7 +1,7 @@
 -- Whichever half it is: its block is replaced.
 use borrow.Author.Needs.{needs}
 use Rattle.aes_tables.specs.Half.{halfOf, tabled}
-use Rattle.aes_tables.specs.declared.group.Half.the-variants.{First, Second, InvFirst, InvSecond}
+use Rattle.aes_tables.specs.declared.group.Half.the-variants.{First, Second, InvFirst}
 use Rattle.aes_tables.proofs.Halves.{table-as, put-half}
 use Rattle.aes_tables.proofs.group.one.Statement.{statement}
 use Rattle.aes_tables.proofs.group.one.Tie as tie
@@ -39,16 +39,6 @@ inv-first-half-requires c κs = (search needs, table-as _ InvFirst _ (c .enum-to
 store-requires-3 : tie.Need-store-requires-3
 store-requires-3 c κs = search needs
 
-enum-told-4 : tie.Need-enum-told-4
-enum-told-4 c = search needs
-
-inv-second-half-requires : tie.Need-inv-second-half-requires
-unfolding tabled
-inv-second-half-requires c κs = (search needs, table-as _ InvSecond _ (c .enum-told4 .given .1) (c .before .before .before .before .before .pre .1 .1))
-
-store-requires-4 : tie.Need-store-requires-4
-store-requires-4 c κs = search needs
-
 same-length : tie.Need-same-length
 same-length c = search needs
 
@@ -79,16 +69,6 @@ returns-3 c =
     let a = e .before .before .before .before .before .args in
     put-half _ InvFirst _ (a .at) (a .text .now) _ _ _ (e .enum-told3 .given .1) (e .before .before .load .ensures) (c .before .before .before .before .inv-first-half .ensures) (c .before .before .store3 .ensures)
 
-same-length-4 : tie.Need-same-length-4
-same-length-4 c = search needs
-
-returns-4 : tie.Need-returns-4
-unfolding halfOf
-returns-4 c =
-    let e = c .before .before .before .before .before in
-    let a = e .before .before .before .before .before .args in
-    put-half _ InvSecond _ (a .at) (a .text .now) _ _ _ (e .enum-told4 .given .1) (e .before .before .load .ensures) (c .before .before .before .before .inv-second-half .ensures) (c .before .before .store4 .ensures)
-
 pub one-spec : {M : Type 1} → statement M
 one-spec =
     tie.close
@@ -103,14 +83,9 @@ one-spec =
     enum-told-3
     inv-first-half-requires
     store-requires-3
-    enum-told-4
-    inv-second-half-requires
-    store-requires-4
     same-length
     returns
     same-length-2
     returns-2
     same-length-3
-    returns-3
-    same-length-4
-    returns-4)
+    returns-3)
