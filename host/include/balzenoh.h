@@ -73,18 +73,18 @@
  *  - Its size, and the stack that each call was seen to use, from its caller's frame down, as
  *    host/stack/run printed them, in bytes:
  *
- *      code      15106
- *      constants  1920
+ *      code      15916
+ *      constants  1152
  *      variables     0
  *
- *      seal       1600
- *      open       1840
- *      seal_run   1920
- *      check_run  1872
+ *      seal       3024
+ *      open       3119
+ *      seal_run   3072
+ *      check_run  3055
  *      join        388
  *      join_list   452
- *      close      1664
- *      test       1648
+ *      close      1488
+ *      test       1488
  *      jump        244
  *
  *    No function recurses. No proof bounds the stack.

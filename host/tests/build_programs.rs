@@ -35,6 +35,20 @@ fn the_benchmark_draws_its_chart_only_where_it_is_told_to() {
     }
 }
 
+/// Beside itself, since there is no other build here.
+#[test]
+fn the_benchmark_runs_beside_another_build() {
+    if !["gcc", "ld", "objcopy"].into_iter().all(present) || !cfg!(bare_cipher) {
+        return println!("the benchmark of two builds needs gcc, ld, objcopy and libaes_blocks.a: skipped");
+    }
+    let checkout = Checkout::new("before");
+    assert!(told(&run(&checkout, "bench/before", &[ARCHIVES, "1"])).contains("times as fast"));
+    assert!(told(&run(&checkout, "bench/before", &["--help"])).contains("FOLDER [ROUNDS]"));
+    for wrong in [&[][..], &[ARCHIVES, "ten"], &[ARCHIVES, "0"], &[ARCHIVES, "1", "2"]] {
+        assert_eq!(run(&checkout, "bench/before", wrong).status.code(), Some(64), "{wrong:?}");
+    }
+}
+
 #[test]
 fn the_archive_needs_memcpy_and_memset_alone() {
     if !present("nm") {

@@ -113,7 +113,8 @@ fn step(
 
 // ---- a run
 
-// RUN over the first `count` blocks of a text with its padding, from the mask of the first one. What is written goes to the front of an output; a check writes nothing.
+// RUN over the first `count` blocks of a text with its padding, from the mask of the first one. What is written goes to the front of an
+// output; a check writes nothing.
 pub fn run(
     task: Task,
     mask: Words,
