@@ -1,7 +1,7 @@
 -- The halves of this engine: what each asks and leaves, whichever it is.
 use mathlib.Core.Path.{_≡_, sym, ap, ap₂, subst, _∙_}
 use mathlib.Core.List.{List, _++_}
-use Prim.Native.Nat.{ℕ, _+_, _*_, _≤_, _<_}
+use Prim.Native.Nat.{ℕ, _+_, _<_}
 use native.Mathlib.Omega.{arith}
 use lib.Dec.{lit<}
 use lib.ListN.{length, take, drop}
@@ -10,7 +10,7 @@ use Rattle.blocks.proofs.Chunks.{length-blocks}
 use Rattle.groups.specs.Group.{blockOf, inFront}
 use Rattle.groups.proofs.Front.{front-blocks}
 use Rattle.fips197.proofs.Lengths.{AllLong, long-firstBlocks, length-firstHalf, length-secondHalf, length-invFirstHalf}
-use Rattle.aes_tables.specs.Half.{halfOf, tabled, TableOf}
+use Rattle.aes_tables.specs.Half.{halfOf, TableOf}
 use Rattle.aes_tables.specs.declared.group.Half.{Half}
 use Rattle.aes_tables.specs.declared.group.Half.the-variants.{First, Second, InvFirst}
 

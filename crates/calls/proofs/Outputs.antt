@@ -1,13 +1,12 @@
 -- Outputs that are written part by part, as lists.
-use mathlib.Core.Path.{_≡_, refl, sym, ap, ap₂, _∙_}
-use mathlib.Core.List.{List, [], _∷_, _++_, append-nil}
-use Prim.Native.Nat.{ℕ, zero, _+_, _-_, _*_, _/_, _%_, _≤_}
+use mathlib.Core.Path.{_≡_, sym, ap, ap₂, _∙_}
+use mathlib.Core.List.{List, _++_}
+use Prim.Native.Nat.{ℕ, zero, _+_, _-_, _≤_}
 use native.Mathlib.Nat.{le-of-eq}
 use native.Mathlib.Omega.{arith}
-use lib.ListN.{length, take, drop, length-drop}
+use lib.ListN.{length, take, drop}
 use lib.Seq.{take-at, drop-at, drop-append-add, take-all}
 use Rattle.blocks.specs.Bytes.{zeros}
-use Rattle.blocks.proofs.Parts.{drop-all}
 use Rattle.calls.specs.Layout.{Fresh}
 use Rattle.blocks.proofs.Zeros.{drop-zeros, length-zeros, zeros-append}
 

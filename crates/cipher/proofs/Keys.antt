@@ -7,7 +7,7 @@ use lib.ListN.{length, take}
 use lib.Seq.{take-append-le, take-all}
 use Rattle.fips197.specs.KeyExpansion.{nextWord, words, keyExpansion}
 use Rattle.fips197.proofs.KeyExpansion.{length-words}
-use Rattle.cipher.specs.Keys.{keyOf, Expanded, Expands}
+use Rattle.cipher.specs.Keys.{keyOf, Expands}
 
 front : (key : List ℕ) (n : ℕ) → length key ≡ 16 → take 16 (words 4 key n) ≡ key
 unfolding words

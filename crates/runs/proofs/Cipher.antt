@@ -4,7 +4,7 @@ use mathlib.Core.List.{List}
 use Prim.Native.Nat.{ℕ}
 use Rattle.groups.specs.Group.{blockAt, Holds}
 use Rattle.groups.proofs.Loop.{holds-as}
-use Rattle.fips197.specs.Aes128.{encrypt, invSecondHalf}
+use Rattle.fips197.specs.Aes128.{encrypt}
 use Rattle.fips197.proofs.Aes128.{encrypt-halves, decrypt-halves}
 use Rattle.cipher.specs.Group.{Enciphered, Deciphered, Middletexts}
 use Rattle.mode.specs.Mode.{encrypt as encryptOf}

@@ -5,7 +5,7 @@ use Prim.Native.Nat.{ℕ, zero, suc, _+_, _-_, _*_, _/_, _%_, _≤_, _<_}
 use native.Mathlib.Nat.{le-of-eq}
 use native.Mathlib.Omega.{arith}
 use lib.ListN.{length, take, drop, set, length-drop, take-append-drop}
-use lib.Seq.{take-at, drop-at, take-all, length-take-le, take-append-le, drop-append-le}
+use lib.Seq.{drop-at, take-all, length-take-le, take-append-le, drop-append-le}
 use Rattle.blocks.specs.Bytes.{zeros, firstBlocks}
 use Rattle.blocks.proofs.Zeros.{set-zeros}
 use Rattle.groups.specs.Group.{blockOf}

@@ -1,7 +1,6 @@
 -- Step 2 over blocks one after another, by any two functions on blocks: sealing, opening and checking are such walks. By the number of a
 -- block: its mask is the first one jumped by its number.
 use mathlib.Core.Path.{_≡_, refl, sym, ap, ap₂, _∙_}
-use mathlib.Core.Bool.{Bool, true, false, cond}
 use mathlib.Core.List.{List, [], _∷_, _++_}
 use Prim.Native.Nat.{ℕ, zero, suc, _+_, _*_, _<_}
 use native.Mathlib.Omega.{arith}

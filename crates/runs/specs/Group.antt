@@ -2,12 +2,11 @@
 use mathlib.Core.Path.{_≡_}
 use mathlib.Core.Bool.{cond}
 use mathlib.Core.List.{List, _++_}
-use Prim.Native.Nat.{ℕ, zero, suc, _≤_, _<_}
+use Prim.Native.Nat.{ℕ, zero, suc, _<_}
 use lib.ListN.{length, take, drop}
 use Rattle.blocks.specs.Bytes.{xorBytes}
 use Rattle.blocks.specs.Gf128.{timesX, jump}
-use Rattle.groups.specs.Group.{blockAt, blockOf, Holds, inFront}
-use Rattle.mode.specs.Mode.{padded}
+use Rattle.groups.specs.Group.{blockAt, Holds, inFront}
 use Rattle.runs.specs.Task.{toMiddle, fromMiddle, writes, middleAt, outputAt}
 use Rattle.runs.specs.declared.run.Task.{Task}
 

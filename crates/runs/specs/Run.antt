@@ -10,7 +10,7 @@ use Rattle.mode.specs.Calls.{decrypted}
 use Rattle.runs.specs.declared.run.Task.{Task}
 use Rattle.runs.specs.declared.run.Task.the-variants.{Seal, Open, Check}
 
--- Steps 2 over these blocks, from a mask and a pre-authenticator. Opening gives the plaintext, with the mask and pre-authenticator that the
+-- Step 2 over these blocks, from a mask and a pre-authenticator. Opening gives the plaintext, with the mask and pre-authenticator that the
 -- ciphertext gives; a check these alone.
 unfoldable pub ran : Task → List ℕ → List (List ℕ) → List ℕ → List ℕ → Pass
 ran Seal key blocks mask p = pass aes plaintext key blocks mask p

@@ -4,7 +4,6 @@ ghost use mathlib.Core.Path.{_≡_};
 ghost use Prim.Native.Nat.{_+_, _*_, _/_, _<_, _≤_};
 ghost use lib.ListN.{length};
 ghost use Rattle.blocks.specs.Bytes.{xorBytes};
-ghost use Rattle.blocks.specs.Gf128.{jump};
 ghost use Rattle.blocks.specs.Words.{bytesOf};
 ghost use Rattle.groups.specs.Group.{blockAt, blockOf, Holds, inFront};
 ghost use Rattle.mode.specs.Mode.{padded};

@@ -1,9 +1,6 @@
 -- The blocks that the loop has copied, and the others.
 use borrow.Author.Needs.{needs}
-use mathlib.Core.Path.{_≡_}
 use Prim.Native.Nat.{_-_, _≤_}
-use native.Mathlib.Omega.{arith}
-use lib.ListN.{length}
 use Rattle.groups.specs.Group.{blockAt}
 use Rattle.groups.proofs.Loop.{During, begins, turn, ends}
 use Rattle.groups.proofs.copy.Statement.{statement}

@@ -1,13 +1,13 @@
 -- The loop has written i words to the front; at the end two words are a block.
 use borrow.Author.Needs.{needs}
-use mathlib.Core.Path.{_≡_, refl, sym, ap, ap₂, _∙_}
+use mathlib.Core.Path.{_≡_, refl, ap, ap₂, _∙_}
 use mathlib.Core.List.{List, _++_}
 use Prim.Native.Nat.{ℕ, _-_, _+_, _*_, _≤_}
 use native.Mathlib.Omega.{arith}
 use lib.ListN.{length, getD, drop}
 use Rattle.blocks.specs.Gf128.{lowBytes}
 use Rattle.blocks.proofs.Num.{length-lowBytes}
-use Rattle.groups.specs.Group.{blockAt, inTurn}
+use Rattle.groups.specs.Group.{inTurn}
 use Rattle.groups.proofs.Front.{Front, front-begins, front-long, front-turn, two-words}
 use Rattle.groups.proofs.store.Statement.{statement}
 use Rattle.groups.proofs.store.Tie as tie

@@ -1,13 +1,13 @@
 -- The loop has taken i blocks through the half; the others are as they were.
 use borrow.Author.Needs.{needs}
-use mathlib.Core.Path.{_≡_, ap, _∙_}
+use mathlib.Core.Path.{_≡_, ap}
 use mathlib.Core.List.{List}
-use Prim.Native.Nat.{ℕ, _-_, _+_, _*_, _≤_, _<_}
+use Prim.Native.Nat.{ℕ, _-_, _*_, _≤_, _<_}
 use native.Mathlib.Omega.{arith}
 use lib.ListN.{length, take, drop, length-drop}
 use lib.Seq.{length-take-le}
 use Rattle.blocks.specs.Bytes.{firstBlocks}
-use Rattle.groups.specs.Group.{blockOf, inTurn}
+use Rattle.groups.specs.Group.{blockOf}
 use Rattle.groups.proofs.Front.{Front, front-begins, front-rest, front-long, front-turn, front-ends}
 use Rattle.aes_tables.specs.Half.{halfOf}
 use Rattle.aes_tables.specs.declared.group.Half.{Half}

@@ -1,6 +1,6 @@
 -- The whole of a slice of 16 bytes is its block.
 use borrow.Author.Needs.{needs}
-use mathlib.Core.Path.{_≡_, ap₂, _∙_}
+use mathlib.Core.Path.{ap₂, _∙_}
 use Rattle.mode.specs.Mode.{startMask}
 use Rattle.mode.specs.Aes.{aes}
 use Rattle.calls.proofs.Outputs.{whole-16}

@@ -8,11 +8,11 @@ use lib.ListN.{length}
 use Rattle.blocks.specs.Bytes.{zeros, firstBlocks}
 use Rattle.blocks.specs.Words.{bytesOf}
 use Rattle.cipher.specs.Keys.{keyOf}
-use Rattle.mode.specs.Mode.{Pass, plaintext, zeroBlock, blocksOf, padded, pass}
+use Rattle.mode.specs.Mode.{Pass, plaintext, zeroBlock, padded, pass}
 use Rattle.mode.specs.Aes.{aes}
 use Rattle.runs.specs.Task.{wrote}
 use Rattle.runs.specs.Run.{ran}
-use Rattle.calls.specs.Layout.{laidOut, laidOutLength}
+use Rattle.calls.specs.Layout.{laidOutLength}
 use Rattle.calls.proofs.LaidOut.{blocks-there, blocks-within}
 use Rattle.calls.proofs.Outputs.{over-zeros}
 use Rattle.calls.proofs.text.seal_text.Statement.{statement}

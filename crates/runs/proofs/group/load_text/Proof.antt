@@ -1,10 +1,9 @@
 -- Whole blocks alone, or these and the last one with the padding.
 use borrow.Author.Needs.{needs}
-use mathlib.Core.Path.{_≡_, refl, ap, _∙_}
-use mathlib.Core.List.{List}
-use Prim.Native.Nat.{ℕ, _+_, _*_, _/_, _≤_}
+use mathlib.Core.Path.{refl, ap, _∙_}
+use Prim.Native.Nat.{_+_, _*_, _/_}
 use native.Mathlib.Omega.{arith}
-use lib.ListN.{length, drop}
+use lib.ListN.{length}
 use Rattle.groups.specs.Group.{blockOf}
 use Rattle.groups.proofs.Loop.{holds-as, turn, ends}
 use Rattle.mode.specs.Mode.{padded}

@@ -1,10 +1,10 @@
 -- The loop has copied the first i bytes; then the byte 80 is set, and zeros are there already.
 use borrow.Author.Needs.{needs}
-use mathlib.Core.Path.{_≡_, refl, sym, ap, ap₂, _∙_}
+use mathlib.Core.Path.{_≡_, refl, ap, ap₂, _∙_}
 use mathlib.Core.List.{List, _++_}
-use Prim.Native.Nat.{ℕ, _-_, _≤_, _<_}
+use Prim.Native.Nat.{ℕ, _-_, _≤_}
 use native.Mathlib.Omega.{arith}
-use lib.ListN.{length, drop, set}
+use lib.ListN.{length, set}
 use lib.Seq.{take-length}
 use Rattle.blocks.specs.Bytes.{zeros}
 use Rattle.blocks.proofs.Tab.{built, built-none, built-more}
