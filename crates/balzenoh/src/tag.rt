@@ -28,7 +28,7 @@ fn close_record(key: &[u8], iv: &[u8], run: &[u8]) -> TagAnswer
         };
     }
     let r = crate::record::decode(run);
-    calls::record::close(key, iv, r)
+    tags::record::close(key, iv, r)
 }
 
 // CLOSE a record into its tag.
@@ -49,5 +49,5 @@ pub extern "C" fn balzenoh_test(key: &[u8], iv: &[u8], run: &[u8], tag: &[u8]) -
         return 24;
     }
     let r = crate::record::decode(run);
-    calls::record::test(key, iv, r, tag)
+    tags::record::test(key, iv, r, tag)
 }

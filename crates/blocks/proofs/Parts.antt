@@ -1,10 +1,14 @@
--- The part of a slice from the n-th byte on, lent and put back.
+-- Parts of a slice: the whole of one, and the part from the n-th byte on, lent and put back.
 use mathlib.Core.Path.{_≡_, refl, sym, ap, _∙_}
 use mathlib.Core.List.{List, [], _∷_, _++_, append-nil}
 use Prim.Native.Nat.{ℕ, _-_}
 use native.Mathlib.Nat.{le-of-eq}
 use lib.ListN.{length, take, drop, length-drop}
 use lib.Seq.{take-all}
+
+-- the whole of a slice of 16 bytes
+pub whole-16 : (a : List ℕ) → length a ≡ 16 → take 16 a ≡ a
+whole-16 a e = take-all 16 a (le-of-eq e)
 
 pub drop-all : (x : List ℕ) → drop (length x) x ≡ []
 drop-all [] = refl

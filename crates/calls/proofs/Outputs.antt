@@ -2,10 +2,9 @@
 use mathlib.Core.Path.{_≡_, sym, ap, ap₂, _∙_}
 use mathlib.Core.List.{List, _++_}
 use Prim.Native.Nat.{ℕ, zero, _+_, _-_, _≤_}
-use native.Mathlib.Nat.{le-of-eq}
 use native.Mathlib.Omega.{arith}
 use lib.ListN.{length, take, drop}
-use lib.Seq.{take-at, drop-at, drop-append-add, take-all}
+use lib.Seq.{take-at, drop-at, drop-append-add}
 use Rattle.blocks.specs.Bytes.{zeros}
 use Rattle.calls.specs.Layout.{Fresh}
 use Rattle.blocks.proofs.Zeros.{drop-zeros, length-zeros, zeros-append}
@@ -13,10 +12,6 @@ use Rattle.blocks.proofs.Zeros.{drop-zeros, length-zeros, zeros-append}
 -- a cleared output
 pub fresh : (n : ℕ) (new : List ℕ) → new ≡ zeros n → Fresh new
 fresh n new e = record { zero = e ∙ ap zeros (sym (ap length e ∙ length-zeros n)) }
-
--- the whole of a slice of 16 bytes
-pub whole-16 : (a : List ℕ) → length a ≡ 16 → take 16 a ≡ a
-whole-16 a e = take-all 16 a (le-of-eq e)
 
 -- a block stored in front of zeros
 pub stored-front : (old new b : List ℕ) (room : ℕ) → 16 ≤ room → old ≡ zeros room → new ≡ take 0 old ++ b ++ drop (0 + 16) old → new ≡ b ++ zeros (room - 16)

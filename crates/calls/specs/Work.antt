@@ -7,33 +7,19 @@ use Prim.Native.Nat.{ℕ, _+_, _/_, _%_, _-_, _≤_}
 use lib.ListN.{length}
 use lib.Dec.{eqb}
 use Rattle.blocks.specs.Bytes.{zeros}
-use Rattle.cipher.specs.Keys.{Expands}
 use Rattle.mode.specs.declared.RunRecord.{RunRecord}
-use Rattle.mode.specs.Mode.{Pass, ciphertext, blocksOf, startMask, unbrokenTag, ivPart, cipherPart, inWords}
+use Rattle.mode.specs.Mode.{Pass, ciphertext, blocksOf, unbrokenTag, ivPart, cipherPart, inWords}
 use Rattle.mode.specs.Aes.{aes}
-use Rattle.mode.specs.Table.{decide, not16, notSealed, beyond, notWhole, zeroMask, tooShort}
+use Rattle.mode.specs.Table.{decide, not16, notSealed, beyond, zeroMask, tooShort}
 use Rattle.mode.specs.declared.Written.{Written}
 use Rattle.mode.specs.declared.RunAnswer.{RunAnswer}
 use Rattle.mode.specs.Calls.{Outcome, outcomeBy, blank, plaintextOf, unpadded, notPadded, orEmpty}
-
--- a key schedule and a start mask
-pub record Prepares (key iv keys start : List ℕ) : Type 0 where
-  pub expanded : Expands key keys
-  pub started : start ≡ startMask aes key iv
 
 -- a text sealed in front of an output, of which this many bytes are left
 pub record TextSealed (p : Pass) (left : ℕ) (new mask preauthenticator : List ℕ) : Type 0 where
   pub written : new ≡ p .output ++ zeros left
   pub masked : mask ≡ p .mask
   pub authenticated : preauthenticator ≡ p .preauthenticator
-
--- the rows that go by the record that is closed, and by the mask that closes it
-abbrev pub recordRows : List ℕ → List ℕ → RunRecord → List (ℕ × Bool)
-recordRows key iv r = (4, beyond (r .first) (r .count)) ∷ (9, notWhole inWords r) ∷ (10, zeroMask aes key iv) ∷ []
-
--- the rows of a test that stand before 6
-abbrev pub testFirstRows : List ℕ → List ℕ → RunRecord → List ℕ → List (ℕ × Bool)
-testFirstRows key iv r tag = (1, not16 key) ∷ (2, not16 iv) ∷ (3, not16 tag) ∷ recordRows key iv r
 
 -- the rows of opening that stand before 6
 abbrev pub openFirstRows : List ℕ → List ℕ → ℕ → List (ℕ × Bool)

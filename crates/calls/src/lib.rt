@@ -4,7 +4,5 @@
 pub mod seal; // seal.rt: seal a message
 pub mod open; // open.rt: open a sealed record
 pub mod run; // run.rt: seal a run, check a run
-pub mod record; // record.rt: close a record, test a tag
 pub mod mask; // mask.rt: jump a mask
-mod prepare; // prepare.rt: the key schedule and the start mask
 mod text; // text.rt: a run's text laid out and sealed

@@ -29,7 +29,7 @@ fn open_refusal(key: &[u8], sealed: &[u8], room: usize) -> u8
     if sealed.len() % 16 != 0 {
         return 3;
     }
-    if crate::prepare::zero_mask(key, &sealed[..16]) {
+    if tags::prepare::zero_mask(key, &sealed[..16]) {
         return 10;
     }
     if room < sealed.len() - 32 {
@@ -97,14 +97,14 @@ fn open_text(key: &[u8], sealed: &[u8], out: &mut [u8]) -> [u8; 16]
     ensures { λ t. ⌜ TextOpened (now (key .entry)) (now (sealed .entry)) (length (now (out .entry))) (now (out .exit)) t ⌝ }
 {
     let stop = sealed.len() - 16;
-    let p = crate::prepare::prepare(key, &sealed[..16]);
+    let p = tags::prepare::prepare(key, &sealed[..16]);
     let keys = p.keys;
     let start = p.start;
     let count = sealed.len() / 16 - 2;
     let chain = runs::run::run(Task::Open, start, &keys, &sealed[16..stop], count, out);
     let mask = chain.mask;
     let preauthenticator = chain.preauthenticator;
-    runs::mask::tag(preauthenticator, mask, &keys)
+    tags::mask::tag(preauthenticator, mask, &keys)
 }
 
 // All 16 bytes of the tag are compared before anything is let out.

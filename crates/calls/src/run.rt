@@ -32,7 +32,7 @@ fn run_refusal(key: &[u8], iv: &[u8], first: u32, size: usize) -> u8
     if mode::LIMIT < first as u64 + (size / 16) as u64 {
         return 4;
     }
-    if crate::prepare::zero_mask(key, iv) {
+    if tags::prepare::zero_mask(key, iv) {
         return 10;
     }
     0
@@ -74,7 +74,7 @@ fn seal_run_into(
 {
     let size = crate::text::laid_out_length(bytes, last);
     let count = (size / 16) as u32;
-    let p = crate::prepare::prepare(key, iv);
+    let p = tags::prepare::prepare(key, iv);
     let keys = p.keys;
     let start = p.start;
     let first_mask = blocks::gf128::jump(start, first);
@@ -135,7 +135,7 @@ fn check_run_record(key: &[u8], iv: &[u8], first: u32, bytes: &[u8]) -> RunRecor
     requires { ⌜ length (now bytes) / 16 ≤ limit ⌝ }
     ensures { λ r. ⌜ r ≡ runRecord inWords aes ciphertext (now (key .entry)) (now (iv .entry)) first (blocksOf (now (bytes .entry))) ⌝ }
 {
-    let p = crate::prepare::prepare(key, iv);
+    let p = tags::prepare::prepare(key, iv);
     let keys = p.keys;
     let start = p.start;
     let mask = blocks::gf128::jump(start, first);

@@ -26,7 +26,7 @@ fn seal_refusal(key: &[u8], iv: &[u8], message: &[u8], room: usize) -> u8
         return 3;
     }
     let needed = message.len() / 16 * 16 + 48;
-    let zero = crate::prepare::zero_mask(key, iv);
+    let zero = tags::prepare::zero_mask(key, iv);
     if zero {
         return 10;
     }
@@ -45,7 +45,7 @@ fn seal_into(key: &[u8], iv: &[u8], message: &[u8], out: &mut [u8]) -> Written
     ensures answer { λ a. ⌜ a ≡ writtenGiven (length (now (message .entry)) / 16 * 16 + 48) ⌝ }
     ensures output { λ _. ⌜ now (out .exit) ≡ sealedRecord aes (now (key .entry)) (now (iv .entry)) (now (message .entry)) ++ zeros (length (now (out .entry)) - (length (now (message .entry)) / 16 * 16 + 48)) ⌝ }
 {
-    let p = crate::prepare::prepare(key, iv);
+    let p = tags::prepare::prepare(key, iv);
     let keys = p.keys;
     let start = p.start;
     let v = blocks::block::load(iv, 0);
@@ -53,7 +53,7 @@ fn seal_into(key: &[u8], iv: &[u8], message: &[u8], out: &mut [u8]) -> Written
     let chain = crate::text::seal_text(message, true, start, &keys, &mut out[16..]);
     let mask = chain.mask;
     let preauthenticator = chain.preauthenticator;
-    let tag = runs::mask::tag(preauthenticator, mask, &keys);
+    let tag = tags::mask::tag(preauthenticator, mask, &keys);
     let at = crate::text::laid_out_length(message, true) + 16;
     blocks::block::store(out, at, tag);
     Written {

@@ -52,11 +52,11 @@ fn closes(key: [u8; 16], iv: [u8; 16], joined: RecordAnswer, tag: [u8; 16]) -> b
     if joined.refusal != 0 {
         return false;
     }
-    gives_tag(calls::record::close(&key, &iv, joined.run), tag)
+    gives_tag(tags::record::close(&key, &iv, joined.run), tag)
 }
 
 fn passes(key: [u8; 16], iv: [u8; 16], run: RunRecord, tag: [u8; 16]) -> bool {
-    calls::record::test(&key, &iv, run, &tag) == 0
+    tags::record::test(&key, &iv, run, &tag) == 0
 }
 
 // The ciphertext checked in runs gives the record that it gives in one run, and that record passes the tag.

@@ -70,7 +70,7 @@ fn test(key: [u8; 16], sealed: &[u8]) -> u8
     if joined.refusal != 0 {
         return NO_ANSWER;
     }
-    calls::record::test(&key, &iv, joined.run, &tag)
+    tags::record::test(&key, &iv, joined.run, &tag)
 }
 
 // The record as it is: sealed, opened and tested.

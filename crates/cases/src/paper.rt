@@ -50,8 +50,8 @@ fn tag_is(iv: [u8; 16], run: RunRecord, tag: [u8; 16]) -> usize
     ensures { λ r. ⌜ r ≤ 2 ⌝ }
 {
     let key = key();
-    let closed = calls::record::close(&key, &iv, run);
-    let tested = calls::record::test(&key, &iv, run, &tag);
+    let closed = tags::record::close(&key, &iv, run);
+    let tested = tags::record::test(&key, &iv, run, &tag);
     one_if(gives_tag(closed, tag)) + one_if(tested == 0)
 }
 

@@ -39,7 +39,7 @@ fn tests(key: [u8; 16], iv: [u8; 16], sealed: &[u8]) -> usize
 {
     let stop = sealed.len() - 16;
     let checked = calls::run::check_run(&key, &iv, 0, &sealed[16..stop]);
-    let tested = calls::record::test(&key, &iv, checked.run, &sealed[stop..]);
+    let tested = tags::record::test(&key, &iv, checked.run, &sealed[stop..]);
     one_if((checked.refusal == 0) & (tested == 0))
 }
 

@@ -1,24 +1,15 @@
--- FIPS 197's cipher is the mode's: one half after the other.
+-- A group through the cipher, by what is done with it: FIPS 197's cipher is one half after the other.
 use mathlib.Core.Path.{_≡_, sym, subst}
 use mathlib.Core.List.{List}
 use Prim.Native.Nat.{ℕ}
 use Rattle.groups.specs.Group.{blockAt, Holds}
 use Rattle.groups.proofs.Loop.{holds-as}
-use Rattle.fips197.specs.Aes128.{encrypt}
 use Rattle.fips197.proofs.Aes128.{encrypt-halves, decrypt-halves}
 use Rattle.cipher.specs.Group.{Enciphered, Deciphered, Middletexts}
-use Rattle.mode.specs.Mode.{encrypt as encryptOf}
-use Rattle.mode.specs.Aes.{aes}
 use Rattle.runs.specs.Task.{toMiddle, fromMiddle}
 use Rattle.runs.specs.Group.{Through}
 use Rattle.runs.specs.declared.run.Task.{Task}
 use Rattle.runs.specs.declared.run.Task.the-variants.{Seal, Open, Check}
-
-pub by-halves : (key s : List ℕ) → encrypt key s ≡ encryptOf aes key s
-unfolding encryptOf
-by-halves key s = sym (encrypt-halves key s)
-
--- ---- a group, by what is done with it
 
 module _ (n : ℕ) (key old new middle : List ℕ) where
   pub sealed-through : Enciphered n key old new middle → Through Seal n key old new middle

@@ -109,7 +109,7 @@ fn seal_blocks(text: &[u8], out: &mut [u8]) -> TagAnswer {
             tag: [0u8; 16],
         };
     }
-    calls::record::close(&key, &iv, a.run)
+    tags::record::close(&key, &iv, a.run)
 }
 
 // The IV, the ciphertext of whole blocks through a middle run, and the closing tag, in an output that held noise. The answer is the

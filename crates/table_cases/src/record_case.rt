@@ -79,7 +79,7 @@ pub fn close_refused(key: usize, iv: usize, first: u32, count: u32, refusal: u8)
 {
     let keys = lengthened(paper::key());
     let ivs = lengthened(paper::iv());
-    let a = calls::record::close(&keys[0..key], &ivs[0..iv], made(first, count));
+    let a = tags::record::close(&keys[0..key], &ivs[0..iv], made(first, count));
     let tag = a.tag;
     one_if((a.refusal == refusal) & blocks::block::equal(tag, [0u8; 16]))
 }
@@ -90,7 +90,7 @@ pub fn closed(count: u32) -> usize
     let key = paper::key();
     let iv = paper::iv();
     one_if(gives_tag(
-        calls::record::close(&key, &iv, made(0, count)),
+        tags::record::close(&key, &iv, made(0, count)),
         reference::tag(count),
     ))
 }
@@ -115,7 +115,7 @@ fn test_answers(
     let ivs = lengthened(paper::iv());
     let mut tag = lengthened(reference::tag(run.count));
     flip(&mut tag, 15, if flipped { 1 } else { 0 });
-    let answer = calls::record::test(&keys[0..key], &ivs[0..iv], run, &tag[0..size]);
+    let answer = tags::record::test(&keys[0..key], &ivs[0..iv], run, &tag[0..size]);
     one_if(answer == refusal)
 }
 

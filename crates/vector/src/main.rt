@@ -29,7 +29,7 @@ fn print_line(label: &[u8], block: [u8; 16]) {
 
 fn start_mask(key: [u8; 16], iv: [u8; 16]) -> Words {
     let keys = cipher::expand(key);
-    runs::mask::start_mask(iv, &keys)
+    tags::mask::start_mask(iv, &keys)
 }
 
 // The block goes through a middle run at block 0. The pre-authenticator of one block is its middletext.
@@ -40,7 +40,7 @@ fn show(key: [u8; 16], iv: [u8; 16], block: [u8; 16]) {
         return;
     }
     let run = sealed.run;
-    let closed = calls::record::close(&key, &iv, run);
+    let closed = tags::record::close(&key, &iv, run);
     if closed.refusal != 0 {
         return;
     }

@@ -18,7 +18,7 @@ pub fn close_refused(key: usize, iv: usize, first: u32, count: u32, refusal: u8)
 {
     let keys = [0u8; 32];
     let ivs = pair::ivs();
-    let a = calls::record::close(&keys[0..key], &ivs[0..iv], made(first, count));
+    let a = tags::record::close(&keys[0..key], &ivs[0..iv], made(first, count));
     let tag = a.tag;
     one_if((a.refusal == refusal) & blocks::block::equal(tag, [0u8; 16]))
 }
@@ -49,6 +49,6 @@ pub fn test_refused(
     let ivs = pair::ivs();
     let mut all = tags();
     flip(&mut all, 15, changed);
-    let answer = calls::record::test(&keys[0..key], &ivs[0..iv], made(first, count), &all[0..tag]);
+    let answer = tags::record::test(&keys[0..key], &ivs[0..iv], made(first, count), &all[0..tag]);
     one_if(answer == refusal)
 }

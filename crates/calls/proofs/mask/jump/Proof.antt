@@ -18,7 +18,8 @@ use Rattle.mode.specs.Table.{firstRow}
 use Rattle.mode.specs.Calls.{jumpRows, jumpMask}
 use Rattle.mode.proofs.Answers.{refuses, gives, refused-written, refused-output, given-written, given-output}
 use Rattle.mode.proofs.Passed.{head-passed, tail-passed, has-16}
-use Rattle.calls.proofs.Outputs.{whole-16, stored-front}
+use Rattle.blocks.proofs.Parts.{whole-16}
+use Rattle.calls.proofs.Outputs.{stored-front}
 use Rattle.calls.proofs.mask.jump.Statement.{statement}
 use Rattle.calls.proofs.mask.jump.Tie as tie
 

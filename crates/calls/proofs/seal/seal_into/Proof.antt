@@ -19,7 +19,8 @@ use Rattle.cipher.specs.Keys.{keyOf}
 use Rattle.blocks.proofs.Parts.{back-is, back-put}
 use Rattle.calls.specs.Layout.{laidOut, laidOutLength}
 use Rattle.blocks.proofs.Zeros.{length-zeros}
-use Rattle.calls.proofs.Outputs.{fresh, whole-16, stored-front, stored-after}
+use Rattle.blocks.proofs.Parts.{whole-16}
+use Rattle.calls.proofs.Outputs.{fresh, stored-front, stored-after}
 use Rattle.calls.proofs.seal.seal_into.Statement.{statement}
 use Rattle.calls.proofs.seal.seal_into.Tie as tie
 

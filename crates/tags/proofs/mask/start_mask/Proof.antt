@@ -8,9 +8,9 @@ use Rattle.blocks.specs.Bytes.{xorBytes, same}
 use Rattle.mode.specs.Mode.{encrypt as encryptOf, startMask, zeroBlock}
 use Rattle.mode.specs.Aes.{aes}
 use Rattle.cipher.specs.Keys.{keyOf}
-use Rattle.runs.proofs.Cipher.{by-halves}
-use Rattle.runs.proofs.mask.start_mask.Statement.{statement}
-use Rattle.runs.proofs.mask.start_mask.Tie as tie
+use Rattle.tags.proofs.Cipher.{by-halves}
+use Rattle.tags.proofs.mask.start_mask.Statement.{statement}
+use Rattle.tags.proofs.mask.start_mask.Tie as tie
 
 -- the key or the sum, as the test says
 chosen : (t : Bool) (keys iv key block encrypted sum : List ℕ) → key ≡ keyOf keys → block ≡ xorBytes iv key → encrypted ≡ encryptOf aes (keyOf keys) block

@@ -3,8 +3,8 @@ use borrow.Author.Needs.{needs}
 use mathlib.Core.Path.{sym, _∙_}
 use Rattle.mode.proofs.Runs.{is16}
 use Rattle.mode.proofs.Rows.{row-holds, row-passes, isnt16}
-use Rattle.calls.proofs.record.test_refusal.Statement.{statement}
-use Rattle.calls.proofs.record.test_refusal.Tie as tie
+use Rattle.tags.proofs.record.test_refusal.Statement.{statement}
+use Rattle.tags.proofs.record.test_refusal.Tie as tie
 
 returns : tie.Need-returns
 returns c = let a = c .before .before .before .before .args in sym (row-holds 1 _ _ (isnt16 (a .key .now) (c .if1 .taken)))

@@ -7,7 +7,7 @@ ghost use Rattle.mode.specs.Mode.{inWords};
 ghost use Rattle.mode.specs.Aes.{aes};
 ghost use Rattle.mode.specs.Table.{firstRow};
 ghost use Rattle.mode.specs.Calls.{closeRows, closingTag, close as closeOf, test as testOf, tagAnswerOf, number};
-ghost use Rattle.calls.specs.Work.{recordRows, testFirstRows};
+ghost use Rattle.tags.specs.Work.{recordRows, testFirstRows};
 
 // The first of the rows 4, 9 and 10 that holds of a record that is to be closed, or 0.
 fn record_refusal(key: &[u8], iv: &[u8], run: RunRecord) -> u8
@@ -70,7 +70,7 @@ fn closing_tag(key: &[u8], iv: &[u8], run: RunRecord) -> [u8; 16]
     let start = p.start;
     let mask = blocks::gf128::jump(start, run.count);
     let preauthenticator = run.preauthenticator;
-    runs::mask::tag(preauthenticator, mask, &keys)
+    crate::mask::tag(preauthenticator, mask, &keys)
 }
 
 // CLOSE a record into its tag.

@@ -8,8 +8,8 @@ use Rattle.mode.specs.Aes.{aes}
 use Rattle.mode.specs.Calls.{closeRows, closingTag, close as closeOf}
 use Rattle.mode.proofs.Answers.{refuses, gives, refused-tag, given-tag}
 use Rattle.mode.proofs.Passed.{key-16, iv-16}
-use Rattle.calls.proofs.record.close.Statement.{statement}
-use Rattle.calls.proofs.record.close.Tie as tie
+use Rattle.tags.proofs.record.close.Statement.{statement}
+use Rattle.tags.proofs.record.close.Tie as tie
 
 close-refusal-requires : tie.Need-close-refusal-requires
 close-refusal-requires c κs = search needs

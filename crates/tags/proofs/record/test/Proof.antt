@@ -10,12 +10,12 @@ use Rattle.mode.specs.Mode.{inWords}
 use Rattle.mode.specs.Aes.{aes}
 use Rattle.mode.specs.Calls.{closingTag, test as testOf, number}
 use Rattle.mode.specs.Table.{firstRow}
-use Rattle.calls.specs.Work.{testFirstRows}
+use Rattle.tags.specs.Work.{testFirstRows}
 use Rattle.mode.proofs.Answers.{test-answer, test-refused}
 use Rattle.mode.proofs.Passed.{key-16, iv-16, tag-16}
-use Rattle.calls.proofs.Outputs.{whole-16}
-use Rattle.calls.proofs.record.test.Statement.{statement}
-use Rattle.calls.proofs.record.test.Tie as tie
+use Rattle.blocks.proofs.Parts.{whole-16}
+use Rattle.tags.proofs.record.test.Statement.{statement}
+use Rattle.tags.proofs.record.test.Tie as tie
 
 test-refusal-requires : tie.Need-test-refusal-requires
 test-refusal-requires c κs = search needs

@@ -5,9 +5,9 @@ use Rattle.blocks.specs.Bytes.{xorBytes}
 use Rattle.mode.specs.Mode.{encrypt as encryptOf, tagFrom}
 use Rattle.mode.specs.Aes.{aes}
 use Rattle.cipher.specs.Keys.{keyOf}
-use Rattle.runs.proofs.Cipher.{by-halves}
-use Rattle.runs.proofs.mask.tag.Statement.{statement}
-use Rattle.runs.proofs.mask.tag.Tie as tie
+use Rattle.tags.proofs.Cipher.{by-halves}
+use Rattle.tags.proofs.mask.tag.Statement.{statement}
+use Rattle.tags.proofs.mask.tag.Tie as tie
 
 xor-requires : tie.Need-xor-requires
 xor-requires c κs = search needs

@@ -3,9 +3,9 @@ use borrow.Author.Needs.{needs}
 use mathlib.Core.Path.{ap₂, _∙_}
 use Rattle.mode.specs.Mode.{startMask}
 use Rattle.mode.specs.Aes.{aes}
-use Rattle.calls.proofs.Outputs.{whole-16}
-use Rattle.calls.proofs.prepare.prepare.Statement.{statement}
-use Rattle.calls.proofs.prepare.prepare.Tie as tie
+use Rattle.blocks.proofs.Parts.{whole-16}
+use Rattle.tags.proofs.prepare.prepare.Statement.{statement}
+use Rattle.tags.proofs.prepare.prepare.Tie as tie
 
 load-requires : tie.Need-load-requires
 load-requires c κs = search needs

@@ -8,8 +8,8 @@ use Rattle.blocks.specs.Words.{bytesOf}
 use Rattle.mode.specs.Mode.{tagFrom}
 use Rattle.mode.specs.Aes.{aes}
 use Rattle.mode.specs.Calls.{closingTag}
-use Rattle.calls.proofs.record.closing_tag.Statement.{statement}
-use Rattle.calls.proofs.record.closing_tag.Tie as tie
+use Rattle.tags.proofs.record.closing_tag.Statement.{statement}
+use Rattle.tags.proofs.record.closing_tag.Tie as tie
 
 prepare-requires : tie.Need-prepare-requires
 prepare-requires c κs = search needs

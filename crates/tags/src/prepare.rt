@@ -5,7 +5,7 @@ ghost use lib.ListN.{length};
 ghost use Rattle.blocks.specs.Words.{bytesOf};
 ghost use Rattle.mode.specs.Aes.{aes};
 ghost use Rattle.mode.specs.Table.{zeroMask};
-ghost use Rattle.calls.specs.Work.{Prepares};
+ghost use Rattle.tags.specs.Work.{Prepares};
 
 pub struct Prepared {
     pub keys: [u8; cipher::KEYS],
@@ -21,7 +21,7 @@ pub fn prepare(key: &[u8], iv: &[u8]) -> Prepared
     let k = blocks::block::load(key, 0);
     let v = blocks::block::load(iv, 0);
     let keys = cipher::expand(k);
-    let start = runs::mask::start_mask(v, &keys);
+    let start = crate::mask::start_mask(v, &keys);
     Prepared { keys, start }
 }
 

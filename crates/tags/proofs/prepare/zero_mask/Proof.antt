@@ -11,8 +11,8 @@ use Rattle.mode.specs.Mode.{zeroBlock}
 use Rattle.mode.specs.Aes.{aes}
 use Rattle.mode.specs.Table.{zeroMask}
 use Rattle.mode.proofs.ZeroMask.{key-not-zero}
-use Rattle.calls.proofs.prepare.zero_mask.Statement.{statement}
-use Rattle.calls.proofs.prepare.zero_mask.Tie as tie
+use Rattle.tags.proofs.prepare.zero_mask.Statement.{statement}
+use Rattle.tags.proofs.prepare.zero_mask.Tie as tie
 
 load-requires : tie.Need-load-requires
 load-requires c κs = search needs

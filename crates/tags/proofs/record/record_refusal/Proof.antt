@@ -5,8 +5,8 @@ use Prim.Native.Nat.{_-_}
 use native.Mathlib.Omega.{arith}
 use Rattle.mode.proofs.Runs.{within}
 use Rattle.mode.proofs.Rows.{row-holds, row-passes, no-row, is-beyond, not-at-start, has-no-block, is-whole}
-use Rattle.calls.proofs.record.record_refusal.Statement.{statement}
-use Rattle.calls.proofs.record.record_refusal.Tie as tie
+use Rattle.tags.proofs.record.record_refusal.Statement.{statement}
+use Rattle.tags.proofs.record.record_refusal.Tie as tie
 
 cast-if1 : tie.Need-cast-if1
 cast-if1 c = search needs

@@ -1,0 +1,2 @@
+-- Cipher: FIPS 197's cipher as the mode's.
+mod Cipher
