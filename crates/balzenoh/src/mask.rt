@@ -8,6 +8,6 @@ ghost use Rattle.balzenoh.specs.Exports.{Returned};
 pub extern "C" fn balzenoh_jump(mask: &[u8], distance: i32, out: &mut [u8]) -> u8
     ensures { λ n. ⌜ Returned (jumpMask (now (mask .entry)) distance (length (now (out .entry)))) n (now (out .exit)) ⌝ }
 {
-    let answer = calls::mask::jump(mask, distance, out);
+    let answer = tags::jump::jump(mask, distance, out);
     answer.refusal
 }

@@ -1,10 +1,10 @@
 -- Lists of zeros.
-use mathlib.Core.Path.{_≡_, refl, ap, _∙_}
-use mathlib.Core.List.{List, _∷_, _++_}
+use mathlib.Core.Path.{_≡_, refl, sym, ap, ap₂, _∙_}
+use mathlib.Core.List.{List, [], _∷_, _++_}
 use Prim.Native.Nat.{ℕ, zero, suc, _+_, _-_, _<_}
 use native.Mathlib.Omega.{arith}
-use lib.ListN.{length, drop, set, length-replicate}
-use lib.Seq.{set-at}
+use lib.ListN.{length, take, drop, set, length-replicate}
+use lib.Seq.{set-at, take-at, drop-append-add}
 use Rattle.blocks.specs.Bytes.{zeros}
 
 pub drop-zeros : (n m : ℕ) → drop n (zeros m) ≡ zeros (m - n)
@@ -23,3 +23,14 @@ set-zeros a (suc n) v h = set-at a 0 (zeros n) v (length a) refl ∙ ap (λ (k :
 pub zeros-append : (m n : ℕ) → zeros m ++ zeros n ≡ zeros (m + n)
 zeros-append zero n = ap zeros (let e : n ≡ 0 + n = omega arith in e)
 zeros-append (suc m) n = ap (λ (t : List ℕ). 0 ∷ t) (zeros-append m n) ∙ ap zeros (let e : suc (m + n) ≡ suc m + n = omega arith in e)
+
+-- a block stored after a front of n bytes, in front of zeros
+pub stored-after : (front old new b : List ℕ) (n left : ℕ) → length front ≡ n → old ≡ front ++ zeros left → new ≡ take n old ++ b ++ drop (n + 16) old
+    → new ≡ front ++ b ++ zeros (left - 16)
+stored-after front old new b n left l eo en =
+    en ∙ ap (λ (z : List ℕ). take n z ++ b ++ drop (n + 16) z) eo
+    ∙ ap₂ (λ (x y : List ℕ). x ++ b ++ y) (take-at front (zeros left) n l)
+    (ap (λ (k : ℕ). drop (k + 16) (front ++ zeros left)) (sym l) ∙ drop-append-add front (zeros left) 16 ∙ drop-zeros 16 left)
+
+pub stored-front : (old new b : List ℕ) (room : ℕ) → old ≡ zeros room → new ≡ take 0 old ++ b ++ drop (0 + 16) old → new ≡ b ++ zeros (room - 16)
+stored-front old new b room = stored-after [] old new b 0 room refl

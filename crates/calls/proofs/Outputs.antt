@@ -1,10 +1,10 @@
 -- Outputs that are written part by part, as lists.
 use mathlib.Core.Path.{_≡_, sym, ap, ap₂, _∙_}
 use mathlib.Core.List.{List, _++_}
-use Prim.Native.Nat.{ℕ, zero, _+_, _-_, _≤_}
+use Prim.Native.Nat.{ℕ, zero, _+_, _-_}
 use native.Mathlib.Omega.{arith}
 use lib.ListN.{length, take, drop}
-use lib.Seq.{take-at, drop-at, drop-append-add}
+use lib.Seq.{take-at, drop-at}
 use Rattle.blocks.specs.Bytes.{zeros}
 use Rattle.calls.specs.Layout.{Fresh}
 use Rattle.blocks.proofs.Zeros.{drop-zeros, length-zeros, zeros-append}
@@ -12,18 +12,6 @@ use Rattle.blocks.proofs.Zeros.{drop-zeros, length-zeros, zeros-append}
 -- a cleared output
 pub fresh : (n : ℕ) (new : List ℕ) → new ≡ zeros n → Fresh new
 fresh n new e = record { zero = e ∙ ap zeros (sym (ap length e ∙ length-zeros n)) }
-
--- a block stored in front of zeros
-pub stored-front : (old new b : List ℕ) (room : ℕ) → 16 ≤ room → old ≡ zeros room → new ≡ take 0 old ++ b ++ drop (0 + 16) old → new ≡ b ++ zeros (room - 16)
-stored-front old new b room h eo en = en ∙ ap (λ (z : List ℕ). b ++ drop 16 z) eo ∙ ap (λ (z : List ℕ). b ++ z) (drop-zeros 16 room)
-
--- a block stored after a front of n bytes, in front of zeros
-pub stored-after : (front old new b : List ℕ) (n left : ℕ) → length front ≡ n → old ≡ front ++ zeros left → new ≡ take n old ++ b ++ drop (n + 16) old
-    → new ≡ front ++ b ++ zeros (left - 16)
-stored-after front old new b n left l eo en =
-    en ∙ ap (λ (z : List ℕ). take n z ++ b ++ drop (n + 16) z) eo
-    ∙ ap₂ (λ (x y : List ℕ). x ++ b ++ y) (take-at front (zeros left) n l)
-    (ap (λ (k : ℕ). drop (k + 16) (front ++ zeros left)) (sym l) ∙ drop-append-add front (zeros left) 16 ∙ drop-zeros 16 left)
 
 -- ---- the front of an output, worked on in place
 

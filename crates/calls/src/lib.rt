@@ -4,5 +4,4 @@
 pub mod seal; // seal.rt: seal a message
 pub mod open; // open.rt: open a sealed record
 pub mod run; // run.rt: seal a run, check a run
-pub mod mask; // mask.rt: jump a mask
 mod text; // text.rt: a run's text laid out and sealed

@@ -107,7 +107,7 @@ pub fn zero_start_mask() -> usize {
 pub fn jumped(mask: [u8; 16], distance: i32) -> [u8; 16] {
     let mut out = [0u8; 32];
     noise(&mut out);
-    let w = calls::mask::jump(&mask, distance, &mut out);
+    let w = tags::jump::jump(&mask, distance, &mut out);
     if written(w, 0, 16, &out) {
         return blocks::block::load(&out, 0);
     }

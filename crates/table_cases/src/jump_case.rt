@@ -9,7 +9,7 @@ fn answers(mask: &[u8], distance: i32, out: &mut [u8], refusal: u8, answer: &[u8
     ensures { λ r. ⌜ r ≤ 1 ⌝ }
 {
     noise(out);
-    let w = calls::mask::jump(mask, distance, out);
+    let w = tags::jump::jump(mask, distance, out);
     one_if(answered(w, refusal, answer, out))
 }
 

@@ -5,7 +5,7 @@ use Prim.Native.Nat.{ℕ}
 use native.Mathlib.Omega.{arith}
 use lib.ListN.{length}
 use Rattle.mode.specs.Table.{firstRow}
-use Rattle.calls.proofs.Outputs.{stored-front}
+use Rattle.blocks.proofs.Zeros.{stored-front}
 use Rattle.balzenoh.specs.Exports.{lentRows}
 use Rattle.balzenoh.proofs.Lent.{room-there, lent-refused, lent-given}
 use Rattle.balzenoh.proofs.tag.give.Statement.{statement}
@@ -47,7 +47,7 @@ returns-2 c =
     let a = c .before .before .before .before .before .before .before .before .before .before .before .before .args in
     let room = length (a .out .now) in
     let none = sym (at-room (c .before .before .before .before .before .before)) ∙ c .before .before .before .before .before .if1 .left in
-    lent-given (a .answer .refusal) 16 (a .answer .tag) room (c .before .before .store .last .0) (long (c .before .before .before .before .before .before .before .before .before .before .before .before)) none (stored-front (c .before .before .before .before .before .before .before .before .before .clear .last .0) (c .before .before .store .last .0) (a .answer .tag) room (room-there (a .answer .refusal) room 16 none) (c .before .before .before .before .before .before .before .before .before .clear .ensures) (c .before .before .store .ensures))
+    lent-given (a .answer .refusal) 16 (a .answer .tag) room (c .before .before .store .last .0) (long (c .before .before .before .before .before .before .before .before .before .before .before .before)) none (stored-front (c .before .before .before .before .before .before .before .before .before .clear .last .0) (c .before .before .store .last .0) (a .answer .tag) room (c .before .before .before .before .before .before .before .before .before .clear .ensures) (c .before .before .store .ensures))
 
 pub give-spec : {M : Type 1} → statement M
 give-spec =

@@ -20,7 +20,8 @@ use Rattle.blocks.proofs.Parts.{back-is, back-put}
 use Rattle.calls.specs.Layout.{laidOut, laidOutLength}
 use Rattle.blocks.proofs.Zeros.{length-zeros}
 use Rattle.blocks.proofs.Parts.{whole-16}
-use Rattle.calls.proofs.Outputs.{fresh, stored-front, stored-after}
+use Rattle.blocks.proofs.Zeros.{stored-front, stored-after}
+use Rattle.calls.proofs.Outputs.{fresh}
 use Rattle.calls.proofs.seal.seal_into.Statement.{statement}
 use Rattle.calls.proofs.seal.seal_into.Tie as tie
 
@@ -30,7 +31,7 @@ front c =
     let s = c .before .before .before .before .before .before .before .before .before .before in
     let a = s .args in
     let room = length (a .out .now) in
-    stored-front (a .out .now) (c .store .last .0) (c .before .before .load .result) room (omega (arith, s .pre .1 .1 .1)) (s .pre .1 .1 .0 .zero) (c .store .ensures)
+    stored-front (a .out .now) (c .store .last .0) (c .before .before .load .result) room (s .pre .1 .1 .0 .zero) (c .store .ensures)
     ∙ ap (λ (z : List ℕ). z ++ zeros (room - 16)) (c .before .before .load .ensures ∙ whole-16 (a .iv .now) (s .pre .1 .0))
 
 -- zeros behind it

@@ -19,9 +19,9 @@ use Rattle.mode.specs.Calls.{jumpRows, jumpMask}
 use Rattle.mode.proofs.Answers.{refuses, gives, refused-written, refused-output, given-written, given-output}
 use Rattle.mode.proofs.Passed.{head-passed, tail-passed, has-16}
 use Rattle.blocks.proofs.Parts.{whole-16}
-use Rattle.calls.proofs.Outputs.{stored-front}
-use Rattle.calls.proofs.mask.jump.Statement.{statement}
-use Rattle.calls.proofs.mask.jump.Tie as tie
+use Rattle.blocks.proofs.Zeros.{stored-front}
+use Rattle.tags.proofs.jump.jump.Statement.{statement}
+use Rattle.tags.proofs.jump.jump.Tie as tie
 
 -- the distance as the machine reads it
 read : (s : tie.Start) → toZ w32 (ofZ w32 (s .args .distance)) ≡ s .args .distance
@@ -82,7 +82,7 @@ returns-2 c =
     let j = c .before .before .before .before .jump-by .ensures ∙ ap₂ jumpBy (read s) (c .before .before .before .before .before .load .ensures ∙ whole-16 (a .mask .now) (h .0)) in
     let d = gives (jumpRows (a .mask .now) (a .distance) room) (jumpBy (a .distance) (a .mask .now)) (q .jump-refusal .result) tt (at-room q) (c .before .before .before .before .before .before .if1 .left) in (
       given-written _ _ room _ 16 d l,
-      stored-front (c .before .before .before .before .before .before .before .before .before .before .clear .last .0) (c .before .before .store .last .0) (bytesOf (c .before .before .before .before .jump-by .result)) room (h .1) (c .before .before .before .before .before .before .before .before .before .before .clear .ensures) (c .before .before .store .ensures)
+      stored-front (c .before .before .before .before .before .before .before .before .before .before .clear .last .0) (c .before .before .store .last .0) (bytesOf (c .before .before .before .before .jump-by .result)) room (c .before .before .before .before .before .before .before .before .before .before .clear .ensures) (c .before .before .store .ensures)
           ∙ ap (λ (z : List ℕ). z ++ zeros (room - 16)) j ∙ given-output _ _ room _ 16 d l,
     )
 

@@ -9,8 +9,8 @@ use mir.ValLaws.{toZ-ofZ}
 use Rattle.mode.specs.Table.{tooFar}
 use Rattle.mode.proofs.Runs.{is16}
 use Rattle.mode.proofs.Rows.{row-holds, row-passes, no-row, isnt16, outside, is-outside}
-use Rattle.calls.proofs.mask.jump_refusal.Statement.{statement}
-use Rattle.calls.proofs.mask.jump_refusal.Tie as tie
+use Rattle.tags.proofs.jump.jump_refusal.Statement.{statement}
+use Rattle.tags.proofs.jump.jump_refusal.Tie as tie
 
 -- what the test finds, of the distance as the machine reads it, is so of the distance
 tested : (s : tie.Start) (t : Bool) → outside (toZ w32 (ofZ w32 (s .args .distance))) ≡ t → tooFar (s .args .distance) ≡ t
