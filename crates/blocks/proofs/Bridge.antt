@@ -10,7 +10,7 @@ use lib.Bits.{bitXor, xor-block, xor-lt}
 use lib.ListN.{length, getD, take, drop, length-append, length-drop, take-append-drop}
 use lib.Seq.{take-at, drop-at, length-take-le}
 use Rattle.blocks.specs.Bytes.{Bytes, Block, xorBytes}
-use Rattle.blocks.specs.Gf128.{num, lowBytes}
+use Rattle.blocks.specs.Num.{num, lowBytes}
 use Rattle.blocks.specs.Tab.{tab}
 use Rattle.blocks.specs.Words.{Words, Proper, bytesOf, wordsOf}
 use Rattle.blocks.proofs.Chunks.{bytes-take, bytes-drop, bytes-append}

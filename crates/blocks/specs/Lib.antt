@@ -1,8 +1,7 @@
--- What the block layer means. Bytes: blocks of 16 bytes. Tab: lists by index. Field: polynomials over GF(2) of any degree.
--- Gf128: blocks as polynomials. Words: two words for sixteen bytes. Spread: how the code squares.
+-- What the block layer means. Bytes: blocks of 16 bytes. Tab: lists by index. Num: bytes as one number. Words: two words for sixteen
+-- bytes. Field: polynomials over GF(2) of any degree.
 pub mod Bytes
 pub mod Tab
-pub mod Field
-pub mod Gf128
+pub mod Num
 pub mod Words
-pub mod Spread
+pub mod Field

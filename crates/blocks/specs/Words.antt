@@ -2,7 +2,7 @@
 use mathlib.Core.List.{List, _++_}
 use Prim.Native.Nat.{ℕ, _^_, _<_}
 use lib.ListN.{take, drop}
-use Rattle.blocks.specs.Gf128.{num, lowBytes}
+use Rattle.blocks.specs.Num.{num, lowBytes}
 -- as the code declares them: high, low
 pub use Rattle.blocks.specs.declared.words.Words.{Words}
 

@@ -1,4 +1,3 @@
 // Blocks of 16 bytes: the layer under the cipher and the mode, which knows of neither.
 pub mod block; // block.rt: exclusive or, comparison, load and store, zeros
 pub mod words; // words.rt: two words for sixteen bytes
-pub mod gf128; // gf128.rt: a block as a polynomial: multiply by x, products, powers, jumps

@@ -4,7 +4,7 @@ ghost use mathlib.Core.List.{[], _∷_, _++_};
 ghost use Prim.Native.Nat.{_+_, _≤_};
 ghost use lib.ListN.{length, take, drop};
 ghost use Rattle.blocks.specs.Bytes.{xorBytes};
-ghost use Rattle.blocks.specs.Gf128.{num, lowBytes};
+ghost use Rattle.blocks.specs.Num.{num, lowBytes};
 ghost use Rattle.blocks.specs.Words.{bytesOf};
 
 pub struct Words {

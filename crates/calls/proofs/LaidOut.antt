@@ -8,8 +8,8 @@ use lib.ListN.{length}
 use lib.Dec.{eqb}
 use borrow.Author.Tests.{eq-eqb}
 use Rattle.blocks.specs.Bytes.{firstBlocks}
-use Rattle.blocks.specs.Gf128.{jump}
-use Rattle.blocks.proofs.TimesX.{length-jump}
+use Rattle.gf128.specs.Gf128.{jump}
+use Rattle.gf128.proofs.TimesX.{length-jump}
 use Rattle.mode.specs.Mode.{plaintext, zeroBlock, startMask, blocksOf, padded}
 use Rattle.mode.specs.Aes.{aes}
 use Rattle.mode.specs.Table.{not16, unaligned, beyond, zeroMask}

@@ -77,7 +77,7 @@ fn seal_run_into(
     let p = tags::prepare::prepare(key, iv);
     let keys = p.keys;
     let start = p.start;
-    let first_mask = blocks::gf128::jump(start, first);
+    let first_mask = gf128::jump(start, first);
     let chain = crate::text::seal_text(bytes, last, first_mask, &keys, out);
     let preauthenticator = chain.preauthenticator;
     let run = RunRecord {
@@ -138,7 +138,7 @@ fn check_run_record(key: &[u8], iv: &[u8], first: u32, bytes: &[u8]) -> RunRecor
     let p = tags::prepare::prepare(key, iv);
     let keys = p.keys;
     let start = p.start;
-    let mask = blocks::gf128::jump(start, first);
+    let mask = gf128::jump(start, first);
     let count = bytes.len() / 16;
     let mut nothing = [0u8; 1];
     let chain = runs::run::run(Task::Check, mask, &keys, bytes, count, &mut nothing);

@@ -5,9 +5,10 @@ use native.Mathlib.Omega.{arith}
 use borrow.Author.Tests.{le-ltb, eq-eqb}
 use Rattle.blocks.specs.Bytes.{xorBytes, firstBlocks}
 use Rattle.blocks.specs.Field.{step, times, mul}
-use Rattle.blocks.specs.Gf128.{carry, shiftLeft, reduction, timesX, jump, lowBit, shiftRight, overX, jumpBy, num, lowBytes}
+use Rattle.blocks.specs.Num.{num, lowBytes}
 use Rattle.blocks.specs.declared.words.Words.{Words}
 use Rattle.blocks.specs.Words.{bytesOf, wordsOf}
+use Rattle.gf128.specs.Gf128.{carry, shiftLeft, reduction, timesX, jump, lowBit, shiftRight, overX, jumpBy}
 use Rattle.fips197.specs.Gf256.{power, inverse}
 use Rattle.fips197.specs.Sbox.{affine, sbox}
 use Rattle.mode.specs.declared.RunRecord.{RunRecord}

@@ -6,9 +6,9 @@ use Prim.Native.Nat.{ℕ, _+_, _/_, _≤_}
 use lib.IntN.{ℤ, pos, negsuc}
 use lib.ListN.{length}
 use Rattle.blocks.specs.Bytes.{zeros}
-use Rattle.blocks.specs.Gf128.{timesX}
 use Rattle.blocks.specs.declared.words.Words.{Words}
 use Rattle.blocks.specs.Words.{Proper, bytesOf, wordsOf}
+use Rattle.gf128.specs.Gf128.{timesX}
 use Rattle.fips197.specs.Sbox.{sbox}
 use Rattle.mode.specs.declared.RunRecord.{RunRecord}
 use Rattle.mode.specs.Mode.{inWords}

@@ -9,7 +9,7 @@ use lib.ListN.{length, getD, take, drop, length-append, length-drop}
 use lib.Seq.{take-at, drop-at, drop-drop}
 use lib.Dec.{eqb}
 use borrow.Author.Tests.{eqb-true, eqb-false}
-use Rattle.blocks.specs.Gf128.{lowBytes}
+use Rattle.blocks.specs.Num.{lowBytes}
 use Rattle.blocks.specs.Words.{bytesOf}
 use Rattle.blocks.proofs.Bridge.{block-bytesOf}
 use Rattle.groups.specs.Group.{blockAt, blockOf, inTurn, inFront}

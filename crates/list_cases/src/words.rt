@@ -42,17 +42,17 @@ pub fn forms() -> usize {
 
 // R1 times x, R2 over x, and the jumps between them.
 pub fn masks() -> usize {
-    are(blocks::gf128::times_x(r1()), r2())
-        + are(blocks::gf128::over_x(r2()), r1())
-        + are(blocks::gf128::jump_by(r1(), 1), r2())
-        + are(blocks::gf128::jump_by(r2(), -1), r1())
+    are(gf128::times_x(r1()), r2())
+        + are(gf128::over_x(r2()), r1())
+        + are(gf128::jump_by(r1(), 1), r2())
+        + are(gf128::jump_by(r2(), -1), r1())
 }
 
 // 1 jumped.
 fn one_jumped(distance: i32, high: u64, low: u64) -> usize
     ensures { λ n. ⌜ n ≤ 1 ⌝ }
 {
-    let jumped = blocks::gf128::jump_by(Words { high: 0, low: 1 }, distance);
+    let jumped = gf128::jump_by(Words { high: 0, low: 1 }, distance);
     are(jumped, Words { high, low })
 }
 

@@ -12,10 +12,10 @@ use lib.Seq.{length-take-le}
 use lib.Dec.{eqb, ltb}
 use borrow.Author.Tests.{eqb-true, eq-eqb, ltb-false, le-ltb, not-false}
 use Rattle.blocks.specs.Bytes.{xorBytes, Bytes, Block, same, concat}
-use Rattle.blocks.specs.Gf128.{timesX, jump}
 use Rattle.blocks.proofs.Chunks.{bytes-take, bytes-drop}
 use Rattle.blocks.proofs.XorBytes.{block-xor, xorBytes-cancel}
-use Rattle.blocks.proofs.TimesX.{length-jump, block-timesX}
+use Rattle.gf128.specs.Gf128.{timesX, jump}
+use Rattle.gf128.proofs.TimesX.{length-jump, block-timesX}
 use Rattle.mode.specs.Mode.{Cipher, Lawful, plaintext, ciphertext, zeroBlock, encrypt, startMask, middletext, written, pass, unbroken, tagFrom, unbrokenTag, blocksOf, padded, ivPart, cipherPart, tagPart, sealedRecord, UnbrokenCheck}
 use Rattle.mode.specs.Table.{Answer, refused, given, decide, NoneHolds, unaligned, tooLong, notSealed, zeroMask, longestMessage, longestSealed}
 use Rattle.mode.specs.Calls.{unpadded, notPadded, orEmpty, decrypted, plaintextOf, openRows, openSealed, seal, sealRows}

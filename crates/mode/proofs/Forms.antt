@@ -7,9 +7,9 @@ use Prim.Native.Nat.{ℕ, _+_}
 use lib.ListN.{length}
 use lib.Dec.{eqb}
 use Rattle.blocks.specs.Bytes.{Bytes, Block, xorBytes, same}
-use Rattle.blocks.specs.Gf128.{jump}
-use Rattle.blocks.proofs.TimesX.{block-jump}
 use Rattle.blocks.proofs.Bridge.{block-bytesOf, proper-wordsOf, bytes-words, words-bytes}
+use Rattle.gf128.specs.Gf128.{jump}
+use Rattle.gf128.proofs.TimesX.{block-jump}
 use Rattle.mode.specs.Mode.{Cipher, Lawful, Source, plaintext, ciphertext, Form, inWords, inBytes, zeroBlock, startMask, tagFrom}
 use Rattle.mode.specs.Table.{Answer, refused, given, decide, NoneHolds, not16, beyond, anyBeyond, apart, none, notWhole, zeroMask}
 use Rattle.mode.specs.Calls.{outcomeBy, unalignedRun, Kind, middle, blocksOfRun, joined, joinedOnto, joinedAll, joinTwo, joinTwoRows, joinList, joinListRows, passFrom, runRecord, sealRun, sealRunRows, checkRun, checkRunRows, closingTag, close, test}

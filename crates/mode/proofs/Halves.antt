@@ -3,9 +3,9 @@ use mathlib.Core.List.{List, [], _∷_}
 use mathlib.Core.Bool.{Bool, true, false, cond}
 use Prim.Native.Nat.{ℕ}
 use Rattle.blocks.specs.Bytes.{Block, xorBytes, same}
-use Rattle.blocks.specs.Gf128.{timesX}
 use Rattle.blocks.proofs.XorBytes.{block-xor}
-use Rattle.blocks.proofs.TimesX.{block-timesX}
+use Rattle.gf128.specs.Gf128.{timesX}
+use Rattle.gf128.proofs.TimesX.{block-timesX}
 use Rattle.mode.specs.Mode.{Cipher, Lawful, Source, plaintext, ciphertext, zeroBlock, encrypt, startMask, middletext, pass}
 use Rattle.mode.proofs.Bytes.{AllBlocks}
 

@@ -4,12 +4,13 @@ use mathlib.Core.List.{List, _++_}
 use Prim.Native.Nat.{ℕ}
 use lib.ListN.{length, length-append}
 use Rattle.blocks.specs.Bytes.{Block, xorBytes}
-use Rattle.blocks.specs.Gf128.{jump, num}
+use Rattle.blocks.specs.Num.{num}
 use Rattle.blocks.specs.Words.{wordsOf}
 use Rattle.blocks.proofs.Test.{bytes-by}
 use Rattle.blocks.proofs.XorBytes.{block-xor}
-use Rattle.blocks.proofs.TimesX.{block-jump}
 use Rattle.blocks.proofs.Bridge.{bytes-words}
+use Rattle.gf128.specs.Gf128.{jump}
+use Rattle.gf128.proofs.TimesX.{block-jump}
 use Rattle.mode.specs.Mode.{Cipher, Lawful, Source, RunRecord, inWords, zeroBlock, startMask, pass, unbroken, recordOf}
 use Rattle.mode.specs.Calls.{joined}
 use Rattle.mode.proofs.Laws.{mask-there, preauthenticator-joined}

@@ -6,10 +6,10 @@ use Prim.Native.Nat.{ℕ, zero, suc, _+_}
 use native.Mathlib.Nat.{add-comm}
 use lib.ListN.{length, length-append}
 use Rattle.blocks.specs.Bytes.{xorBytes}
-use Rattle.blocks.specs.Gf128.{timesX, jump, carry, shiftLeft, reduction}
 use Rattle.blocks.proofs.XorBytes.{xorBytes-zeros, xorBytes-comm, xorBytes-assoc, length-xor}
-use Rattle.blocks.proofs.TimesX.{length-timesX, length-jump, jump-xor, jump-add}
 use Rattle.blocks.specs.Bytes.{same}
+use Rattle.gf128.specs.Gf128.{timesX, jump, carry, shiftLeft, reduction}
+use Rattle.gf128.proofs.TimesX.{length-timesX, length-jump, jump-xor, jump-add}
 use Rattle.mode.specs.Mode.{Cipher, Lawful, Source, plaintext, ciphertext, zeroBlock, encrypt, startMask, middletext, written, pass, unbroken}
 
 abbrev pub AllLong : List (List ℕ) → Type 0

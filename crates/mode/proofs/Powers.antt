@@ -8,13 +8,13 @@ use lib.Dec.{eqb, lit<}
 use lib.IntN.{pos}
 use borrow.Author.Tests.{eq-eqb, ne-eqb, eqb-true}
 use Rattle.blocks.specs.Bytes.{xorBytes}
-use Rattle.blocks.specs.Gf128.{jump, jumpBy, power, product, one}
 use Rattle.blocks.specs.declared.words.Words.{Words}
 use Rattle.blocks.specs.Words.{Proper, bytesOf}
-use Rattle.blocks.proofs.TimesX.{block-one}
-use Rattle.blocks.proofs.JumpBy.{block-jumpBy}
-use Rattle.blocks.proofs.Product.{product-power}
 use Rattle.blocks.proofs.Bridge.{block-bytesOf, bytes-words, words-of}
+use Rattle.gf128.specs.Gf128.{jump, jumpBy, power, product, one}
+use Rattle.gf128.proofs.TimesX.{block-one}
+use Rattle.gf128.proofs.JumpBy.{block-jumpBy}
+use Rattle.gf128.proofs.Product.{product-power}
 use Rattle.mode.specs.Mode.{RunRecord, inWords}
 use Rattle.mode.specs.Table.{Answer, refused, given, firstRow}
 use Rattle.mode.specs.Calls.{RecordAnswer, joined, joinTwo, joinTwoRows, recordAnswerOf, refusedRecord}

@@ -11,11 +11,11 @@ use lib.Seq.{take-append-seam}
 use lib.Dec.{eqb, ltb}
 use borrow.Author.Tests.{eqb-true, ltb-false, not-false}
 use Rattle.blocks.specs.Bytes.{xorBytes, Block, concat}
-use Rattle.blocks.specs.Gf128.{jump}
 use Rattle.blocks.specs.Words.{Proper, bytesOf, wordsOf}
 use Rattle.blocks.proofs.Bridge.{block-bytesOf, bytes-words, words-bytes}
 use Rattle.blocks.proofs.XorBytes.{xorBytes-assoc, xorBytes-zeros}
-use Rattle.blocks.proofs.TimesX.{jump-xor, jump-add, length-jump, block-jump}
+use Rattle.gf128.specs.Gf128.{jump}
+use Rattle.gf128.proofs.TimesX.{jump-xor, jump-add, length-jump, block-jump}
 use Rattle.mode.specs.Mode.{Cipher, Lawful, plaintext, ciphertext, RunRecord, inWords, zeroBlock, startMask, blocksOf}
 use Rattle.mode.specs.Table.{Answer, refused, given, decide, NoneHolds, beyond, anyBeyond, apart, limit, none}
 use Rattle.mode.specs.Calls.{joined, joinedOnto, joinedAll, joinList, blocksOfRun, outcomeBy, passFrom, runRecord, sealRun, sealRunRows, checkRun, checkRunRows}

@@ -9,9 +9,9 @@ use native.Mathlib.Omega.{arith}
 use lib.ListN.{length, getD, replicate}
 use lib.Dec.{lit<, lit≤, ltb, eqb}
 use Rattle.blocks.specs.Bytes.{xorBytes, same, concat}
-use Rattle.blocks.specs.Gf128.{jump}
 use Rattle.blocks.specs.Words.{bytesOf, wordsOf}
 use Rattle.blocks.specs.declared.words.Words.{Words}
+use Rattle.gf128.specs.Gf128.{jump}
 use Rattle.mode.specs.Mode.{plaintext, ciphertext, RunRecord, inWords, zeroBlock, blocksOf, encrypt, startMask, tagFrom, UnbrokenCheck}
 use Rattle.mode.specs.Table.{Answer, refused, given, decide, anyBeyond, apart, none}
 use Rattle.mode.specs.Calls.{Kind, middle, last, blocksOfRun, Outcome, outcomeBy, joined, joinedAll, blank, joinTwo, joinTwoRows, joinList, joinListRows, passFrom, runRecord, sealRun, sealRunRows, checkRun, checkRunRows, close, closeRows, test, Calls}

@@ -10,9 +10,9 @@ use lib.Seq.{length-take-le, take-at, drop-at, take-nil, drop-nil}
 use lib.Dec.{leb, ltb}
 use borrow.Author.Tests.{eq-eqb, leb-true, leb-false, le-ltb, lt-ltb}
 use Rattle.blocks.specs.Bytes.{xorBytes}
-use Rattle.blocks.specs.Gf128.{timesX, jump}
 use Rattle.blocks.specs.Words.{wordsOf}
-use Rattle.blocks.proofs.TimesX.{length-timesX, length-jump, jump-add}
+use Rattle.gf128.specs.Gf128.{timesX, jump}
+use Rattle.gf128.proofs.TimesX.{length-timesX, length-jump, jump-add}
 use Rattle.mode.specs.Mode.{Cipher, Lawful, Source, plaintext, ciphertext, RunRecord, inWords, zeroBlock, startMask, middletext, written, pass, unbroken, recordOf, blocksOf, ivPart}
 use Rattle.mode.specs.Table.{Answer, refused, given, decide, not16, beyond, zeroMask, limit}
 use Rattle.mode.specs.Calls.{unalignedRun, Kind, middle, last, blocksOfRun, outcomeBy, passFrom, runRecord, sealRun, sealRunRows, checkRun, callsOf}

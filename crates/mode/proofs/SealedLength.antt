@@ -5,7 +5,7 @@ use Prim.Native.Nat.{ℕ, _+_, _*_, _/_, _%_}
 use native.Mathlib.Omega.{arith}
 use lib.ListN.{length, length-append}
 use Rattle.blocks.specs.Bytes.{xorBytes}
-use Rattle.blocks.proofs.TimesX.{length-jump}
+use Rattle.gf128.proofs.TimesX.{length-jump}
 use Rattle.mode.specs.Mode.{Cipher, Lawful, plaintext, zeroBlock, encrypt, startMask, pass, unbroken, tagFrom, unbrokenTag, blocksOf, padded, sealedRecord}
 use Rattle.mode.proofs.Laws.{AllLong, xor-long, pass-mask, preauthenticator-long, start-long}
 use Rattle.mode.proofs.Blocks.{long-blocks, length-padded, count-last}

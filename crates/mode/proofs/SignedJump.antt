@@ -8,9 +8,9 @@ use lib.ListN.{length}
 use lib.Dec.{lit<}
 use borrow.Author.Tests.{le-ltb}
 use Rattle.blocks.specs.Bytes.{Block}
-use Rattle.blocks.specs.Gf128.{jump, jumpBy}
 use Rattle.blocks.proofs.Sign.{abs-neg}
-use Rattle.blocks.proofs.JumpBy.{block-jumpBy, jumpBy-add, jumpBy-undone}
+use Rattle.gf128.specs.Gf128.{jump, jumpBy}
+use Rattle.gf128.proofs.JumpBy.{block-jumpBy, jumpBy-add, jumpBy-undone}
 use Rattle.mode.specs.Mode.{Cipher, Lawful, startMask}
 use Rattle.mode.specs.Table.{decide, tooFar, limit}
 use Rattle.mode.specs.Calls.{jumpMask, jumpRows}

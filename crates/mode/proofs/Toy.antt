@@ -5,10 +5,11 @@ use Prim.Native.Nat.{ℕ}
 use lib.ListN.{replicate}
 use lib.Dec.{lit≤}
 use Rattle.blocks.specs.Bytes.{xorBytes, firstBlocks, same, concat}
-use Rattle.blocks.specs.Gf128.{timesX, jump, carry, shiftLeft, reduction, num, lowBytes}
+use Rattle.blocks.specs.Num.{num, lowBytes}
 use Rattle.blocks.specs.Words.{bytesOf, wordsOf}
 use Rattle.blocks.proofs.Test.{bytes-by}
 use Rattle.blocks.proofs.XorBytes.{xorBytes-cancel, block-xor}
+use Rattle.gf128.specs.Gf128.{timesX, jump, carry, shiftLeft, reduction}
 use Rattle.mode.specs.Mode.{Cipher, Lawful, zeroBlock, blocksOf, padded, encrypt, startMask, middletext, written, pass, unbroken, recordOf, ivPart, cipherPart, tagPart, tagFrom, unbrokenTag, sealedRecord}
 use Rattle.mode.specs.Table.{decide, not16, unaligned, beyond, anyBeyond, apart, none, notWhole, notSealed, zeroMask}
 use Rattle.mode.specs.Calls.{unalignedRun, blocksOfRun, outcomeBy, joined, joinedOnto, joinedAll, joinTwo, joinList, passFrom, runRecord, sealRun, checkRun, closingTag, close, test, openSealed, openRows, notPadded, orEmpty, unpadded, unpadFrom, plaintextOf, decrypted}

@@ -6,7 +6,7 @@ use Prim.Native.Nat.{ℕ, zero, suc, _+_, _*_, _-_}
 use lib.ListN.{length, take}
 use lib.IntN.{ℤ}
 use Rattle.blocks.specs.Bytes.{xorBytes, same, zeros}
-use Rattle.blocks.specs.Gf128.{timesX, jump, jumpBy}
+use Rattle.gf128.specs.Gf128.{timesX, jump, jumpBy}
 use Rattle.mode.specs.Mode.{Cipher, Source, plaintext, ciphertext, Pass, Form, RunRecord, inWords, blocksOf, padded, zeroBlock, startMask, middletext, pass, tagFrom, unbrokenTag, sealedRecord, ivPart, cipherPart, tagPart}
 use Rattle.mode.specs.Table.{Answer, refused, given, decide, not16, unaligned, tooLong, notSealed, beyond, anyBeyond, tooFar, apart, none, notWhole, zeroMask, tooShort}
 -- the code's answers, as it declares them

@@ -12,9 +12,9 @@ use lib.ListN.{length, take, drop}
 use lib.IntN.{ℤ, pos, negsuc, negℤ, natAbs, _+ℤ_}
 use lib.Dec.{eqb}
 use Rattle.blocks.specs.Bytes.{Bytes, Block, zeros, xorBytes}
-use Rattle.blocks.specs.Gf128.{jump, overX, jumpBy}
 use Rattle.blocks.specs.declared.words.Words.{Words}
 use Rattle.blocks.specs.Words.{Proper, bytesOf, wordsOf}
+use Rattle.gf128.specs.Gf128.{jump, overX, jumpBy}
 use Rattle.fips197.specs.KeyExpansion.{roundKeys}
 use Rattle.fips197.specs.Cipher.{cipher, invCipher, afterRound}
 use Rattle.mode.specs.Mode.{Cipher, Source, plaintext, ciphertext, Pass, Form, RunRecord, inWords, ByteRecord, inBytes, blocksOf, padded, zeroBlock, startMask, encrypt, pass, tagFrom, unbroken, unbrokenTag, recordOf, ivPart, cipherPart, tagPart, sealedRecord, UnbrokenCheck}

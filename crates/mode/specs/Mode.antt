@@ -5,8 +5,8 @@ use mathlib.Core.Bool.{cond}
 use Prim.Native.Nat.{ℕ, _+_, _-_, _/_, _%_}
 use lib.ListN.{length, take, drop}
 use Rattle.blocks.specs.Bytes.{Bytes, Block, xorBytes, same, zeros, firstBlocks}
-use Rattle.blocks.specs.Gf128.{timesX}
 use Rattle.blocks.specs.Words.{bytesOf, wordsOf}
+use Rattle.gf128.specs.Gf128.{timesX}
 -- document 01's run record, as the code declares it: first, count, and the pre-authenticator in two words (ticket P12)
 pub use Rattle.mode.specs.declared.RunRecord.{RunRecord}
 

@@ -5,9 +5,9 @@ use mathlib.Core.Bool.{true, false, cond, _&&_}
 use Prim.Native.Nat.{ℕ, _+_, _^_, _<_}
 use lib.Dec.{eqb}
 use lib.IntN.{pos}
-use Rattle.blocks.specs.Gf128.{power}
 use Rattle.blocks.specs.declared.words.Words.{Words}
 use Rattle.blocks.specs.Words.{bytesOf, wordsOf}
+use Rattle.gf128.specs.Gf128.{power}
 use Rattle.mode.specs.Mode.{RunRecord, inWords}
 use Rattle.mode.specs.Table.{Answer, refused, given}
 use Rattle.mode.specs.Calls.{joinTwo, recordAnswerOf}

@@ -91,7 +91,7 @@ impl RunRecord {
         ensures { λ r. ⌜ r ≡ joined inWords self right ⌝ }
     {
         let left = self.preauthenticator;
-        let moved = blocks::gf128::multiply(power, left);
+        let moved = gf128::multiply(power, left);
         let added = right.preauthenticator;
         let preauthenticator = blocks::words::xor(moved, added);
         RunRecord {

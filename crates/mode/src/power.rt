@@ -29,7 +29,7 @@ impl LastPower {
         requires { ⌜ Keeps self ⌝ }
         ensures { λ k. ⌜ k ≡ workedOut self count ⌝ }
     {
-        let power = blocks::gf128::power(count, false);
+        let power = gf128::power(count, false);
         LastPower {
             some: true,
             count,

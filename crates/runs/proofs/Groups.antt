@@ -9,8 +9,8 @@ use lib.Seq.{take-at, drop-at, drop-drop}
 use lib.Dec.{ltb}
 use borrow.Author.Tests.{ltb-true, ltb-false}
 use Rattle.blocks.specs.Bytes.{xorBytes}
-use Rattle.blocks.specs.Gf128.{jump}
-use Rattle.blocks.proofs.TimesX.{jump-add}
+use Rattle.gf128.specs.Gf128.{jump}
+use Rattle.gf128.proofs.TimesX.{jump-add}
 use Rattle.groups.specs.Group.{blockAt, blockOf, inTurn, inFront}
 use Rattle.groups.proofs.Front.{length-inTurn, length-blockAt, turn-as, turn-add, block-behind}
 use Rattle.mode.specs.Mode.{padded}

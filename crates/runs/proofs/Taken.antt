@@ -4,7 +4,7 @@ use mathlib.Core.List.{List}
 use Prim.Native.Nat.{ℕ, zero, suc, _+_, _<_}
 use native.Mathlib.Omega.{arith}
 use Rattle.blocks.specs.Bytes.{xorBytes}
-use Rattle.blocks.specs.Gf128.{timesX}
+use Rattle.gf128.specs.Gf128.{timesX}
 use Rattle.runs.specs.Group.{takenUp}
 
 pub taken-as : (n : ℕ) (b b′ : ℕ → List ℕ) (p : List ℕ) → ((i : ℕ) → i < n → b i ≡ b′ i) → takenUp n b p ≡ takenUp n b′ p

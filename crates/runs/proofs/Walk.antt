@@ -6,8 +6,8 @@ use Prim.Native.Nat.{ℕ, zero, suc, _+_, _*_, _<_}
 use native.Mathlib.Omega.{arith}
 use lib.ListN.{length, drop}
 use Rattle.blocks.specs.Bytes.{xorBytes, firstBlocks}
-use Rattle.blocks.specs.Gf128.{timesX, jump}
-use Rattle.blocks.proofs.TimesX.{jump-add}
+use Rattle.gf128.specs.Gf128.{timesX, jump}
+use Rattle.gf128.proofs.TimesX.{jump-add}
 use Rattle.groups.specs.Group.{blockOf, inTurn}
 use Rattle.groups.proofs.Front.{length-inTurn, turn-as, turn-first, block-behind}
 use Rattle.mode.specs.Mode.{Pass, plaintext, ciphertext, middletext, written, pass}

@@ -5,7 +5,7 @@ use mathlib.Core.List.{List, _++_}
 use Prim.Native.Nat.{ℕ, zero, suc, _<_}
 use lib.ListN.{length, take, drop}
 use Rattle.blocks.specs.Bytes.{xorBytes}
-use Rattle.blocks.specs.Gf128.{timesX, jump}
+use Rattle.gf128.specs.Gf128.{timesX, jump}
 use Rattle.groups.specs.Group.{blockAt, Holds, inFront}
 use Rattle.runs.specs.Task.{toMiddle, fromMiddle, writes, middleAt, outputAt}
 use Rattle.runs.specs.declared.run.Task.{Task}

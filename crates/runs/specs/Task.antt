@@ -3,7 +3,7 @@ use mathlib.Core.Bool.{Bool, true, false}
 use mathlib.Core.List.{List}
 use Prim.Native.Nat.{ℕ, _*_}
 use Rattle.blocks.specs.Bytes.{xorBytes}
-use Rattle.blocks.specs.Gf128.{jump}
+use Rattle.gf128.specs.Gf128.{jump}
 use Rattle.groups.specs.Group.{blockOf}
 use Rattle.fips197.specs.Aes128.{firstHalf, secondHalf, invFirstHalf, invSecondHalf}
 use Rattle.runs.specs.declared.run.Task.{Task}

@@ -62,7 +62,7 @@ fn mask_each(
         let masked = blocks::words::xor(block, m);
         groups::put(group, i, masked);
         groups::put(masks, i, m);
-        let next = blocks::gf128::times_x(m);
+        let next = gf128::times_x(m);
         m = next;
         i += 1;
     }
@@ -97,7 +97,7 @@ pub(crate) fn take_up(preauthenticator: Words, middle: &[u64; groups::WORDS], n:
     let mut p = preauthenticator;
     let mut i: usize = 0;
     while i < n {
-        let moved = blocks::gf128::times_x(p);
+        let moved = gf128::times_x(p);
         let added = groups::get(middle, i);
         let next = blocks::words::xor(moved, added);
         p = next;

@@ -37,7 +37,7 @@ pub fn jump(mask: &[u8], distance: i32, out: &mut [u8]) -> Written
         return Written { refusal, length: 0 };
     }
     let m = blocks::words::load(mask, 0);
-    let jumped = blocks::gf128::jump_by(m, distance);
+    let jumped = gf128::jump_by(m, distance);
     blocks::words::store(out, 0, jumped);
     Written {
         refusal: 0,

@@ -68,7 +68,7 @@ fn closing_tag(key: &[u8], iv: &[u8], run: RunRecord) -> [u8; 16]
     let p = crate::prepare::prepare(key, iv);
     let keys = p.keys;
     let start = p.start;
-    let mask = blocks::gf128::jump(start, run.count);
+    let mask = gf128::jump(start, run.count);
     let preauthenticator = run.preauthenticator;
     crate::mask::tag(preauthenticator, mask, &keys)
 }

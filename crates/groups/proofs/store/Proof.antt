@@ -5,7 +5,7 @@ use mathlib.Core.List.{List, _++_}
 use Prim.Native.Nat.{ℕ, _-_, _+_, _*_, _≤_}
 use native.Mathlib.Omega.{arith}
 use lib.ListN.{length, getD, drop}
-use Rattle.blocks.specs.Gf128.{lowBytes}
+use Rattle.blocks.specs.Num.{lowBytes}
 use Rattle.blocks.proofs.Num.{length-lowBytes}
 use Rattle.groups.specs.Group.{inTurn}
 use Rattle.groups.proofs.Front.{Front, front-begins, front-long, front-turn, two-words}

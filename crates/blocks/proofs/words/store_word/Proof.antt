@@ -8,7 +8,7 @@ use native.Mathlib.Omega.{arith}
 use native.Mathlib.Numerals.{add-one}
 use lib.ListN.{length, take, drop, set, getD}
 use lib.Seq.{paste, paste-zero, paste-suc, length-paste, take-all}
-use Rattle.blocks.specs.Gf128.{lowBytes}
+use Rattle.blocks.specs.Num.{lowBytes}
 use Rattle.blocks.proofs.Num.{length-lowBytes, getD-lowBytes}
 use Rattle.blocks.proofs.words.store_word.Statement.{statement}
 use Rattle.blocks.proofs.words.store_word.Tie as tie

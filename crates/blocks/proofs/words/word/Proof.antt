@@ -1,7 +1,7 @@
 -- A number by its bytes.
 use borrow.Author.Needs.{needs}
 use native.Mathlib.Omega.{arith}
-use Rattle.blocks.specs.Gf128.{num}
+use Rattle.blocks.specs.Num.{num}
 use Rattle.blocks.proofs.words.word.Statement.{statement}
 use Rattle.blocks.proofs.words.word.Tie as tie
 

@@ -4,8 +4,8 @@ use mathlib.Core.Path.{sym, ap, _∙_}
 use Prim.Native.Nat.{_/_}
 use native.Mathlib.Omega.{arith}
 use lib.ListN.{length}
-use Rattle.blocks.specs.Gf128.{jump}
 use Rattle.blocks.proofs.Bridge.{proper-by, words-of}
+use Rattle.gf128.specs.Gf128.{jump}
 use Rattle.mode.specs.Mode.{ciphertext, zeroBlock, blocksOf, pass}
 use Rattle.mode.specs.Aes.{aes}
 use Rattle.mode.specs.Calls.{passFrom, runRecord}

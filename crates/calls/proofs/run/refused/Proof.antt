@@ -1,6 +1,6 @@
 -- A blank record's words are zero.
 use mathlib.Core.Path.{refl}
-use Rattle.blocks.specs.Gf128.{num}
+use Rattle.blocks.specs.Num.{num}
 use Rattle.blocks.specs.Words.{wordsOf}
 use Rattle.calls.proofs.run.refused.Statement.{statement}
 use Rattle.calls.proofs.run.refused.Tie as tie

@@ -6,9 +6,9 @@ use Prim.Native.Nat.{ℕ, _+_, _-_, _/_}
 use native.Mathlib.Omega.{arith}
 use lib.ListN.{length}
 use Rattle.blocks.specs.Bytes.{zeros}
-use Rattle.blocks.specs.Gf128.{jump}
 use Rattle.blocks.specs.Words.{bytesOf}
 use Rattle.blocks.proofs.Bridge.{proper-by, words-of}
+use Rattle.gf128.specs.Gf128.{jump}
 use Rattle.mode.specs.Mode.{Pass, plaintext, zeroBlock, blocksOf, pass}
 use Rattle.mode.specs.Aes.{aes}
 use Rattle.mode.specs.Calls.{blocksOfRun, passFrom, runRecord}

@@ -4,8 +4,8 @@ use mathlib.Core.Path.{ap}
 use mathlib.Core.List.{List}
 use Prim.Native.Nat.{ℕ}
 use Rattle.blocks.specs.Bytes.{xorBytes}
-use Rattle.blocks.specs.Gf128.{jump}
 use Rattle.blocks.specs.Words.{bytesOf}
+use Rattle.gf128.specs.Gf128.{jump}
 use Rattle.groups.proofs.Loop.{holds-as}
 use Rattle.runs.proofs.group.load.Statement.{statement}
 use Rattle.runs.proofs.group.load.Tie as tie

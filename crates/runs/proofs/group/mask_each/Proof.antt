@@ -5,8 +5,8 @@ use Prim.Native.Nat.{ℕ, _-_, _≤_}
 use native.Mathlib.Omega.{arith}
 use native.Mathlib.Numerals.{add-one}
 use Rattle.blocks.specs.Bytes.{xorBytes}
-use Rattle.blocks.specs.Gf128.{timesX, jump}
 use Rattle.blocks.specs.Words.{bytesOf}
+use Rattle.gf128.specs.Gf128.{timesX, jump}
 use Rattle.groups.specs.Group.{blockAt}
 use Rattle.groups.proofs.Loop.{During, begins, turn, ends}
 use Rattle.runs.proofs.group.mask_each.Statement.{statement}

@@ -5,8 +5,8 @@ use Prim.Native.Nat.{ℕ, _-_, _≤_}
 use native.Mathlib.Omega.{arith}
 use native.Mathlib.Numerals.{add-one}
 use Rattle.blocks.specs.Bytes.{xorBytes}
-use Rattle.blocks.specs.Gf128.{timesX}
 use Rattle.blocks.specs.Words.{bytesOf}
+use Rattle.gf128.specs.Gf128.{timesX}
 use Rattle.groups.specs.Group.{blockAt}
 use Rattle.runs.specs.Group.{takenUp}
 use Rattle.runs.proofs.group.take_up.Statement.{statement}

@@ -4,7 +4,7 @@ use mathlib.Core.Path.{_≡_, refl, sym, ap, _∙_}
 use Prim.Native.Nat.{_-_, _*_, _≤_}
 use native.Mathlib.Omega.{arith}
 use lib.ListN.{length, drop, length-drop}
-use Rattle.blocks.specs.Gf128.{lowBytes}
+use Rattle.blocks.specs.Num.{lowBytes}
 use Rattle.blocks.specs.Words.{bytesOf}
 use Rattle.cipher.specs.Keys.{keyOf}
 use Rattle.mode.specs.Mode.{padded}

@@ -11,8 +11,6 @@ use mir.Syntax.{w32}
 use mir.Val.{toZ, ofZ}
 use mir.ValLaws.{toZ-ofZ}
 use Rattle.blocks.specs.Bytes.{zeros}
-use Rattle.blocks.specs.Gf128.{jumpBy}
-use Rattle.blocks.proofs.JumpBy.{length-jumpBy}
 use Rattle.blocks.specs.Words.{bytesOf}
 use Rattle.mode.specs.Table.{firstRow}
 use Rattle.mode.specs.Calls.{jumpRows, jumpMask}
@@ -20,6 +18,8 @@ use Rattle.mode.proofs.Answers.{refuses, gives, refused-written, refused-output
 use Rattle.mode.proofs.Passed.{head-passed, tail-passed, has-16}
 use Rattle.blocks.proofs.Parts.{whole-16}
 use Rattle.blocks.proofs.Zeros.{stored-front}
+use Rattle.gf128.specs.Gf128.{jumpBy}
+use Rattle.gf128.proofs.JumpBy.{length-jumpBy}
 use Rattle.tags.proofs.jump.jump.Statement.{statement}
 use Rattle.tags.proofs.jump.jump.Tie as tie
 

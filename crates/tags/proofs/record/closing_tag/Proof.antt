@@ -3,8 +3,8 @@ use borrow.Author.Needs.{needs}
 use mathlib.Core.Path.{ap, ap₂, _∙_}
 use mathlib.Core.List.{List}
 use Prim.Native.Nat.{ℕ}
-use Rattle.blocks.specs.Gf128.{jump}
 use Rattle.blocks.specs.Words.{bytesOf}
+use Rattle.gf128.specs.Gf128.{jump}
 use Rattle.mode.specs.Mode.{tagFrom}
 use Rattle.mode.specs.Aes.{aes}
 use Rattle.mode.specs.Calls.{closingTag}

@@ -4,9 +4,9 @@ use mathlib.Core.Path.{ap}
 use mathlib.Core.Bool.{true}
 use Prim.Native.Nat.{_+_}
 use lib.IntN.{pos}
-use Rattle.blocks.specs.Gf128.{power, signed}
 use Rattle.blocks.specs.declared.words.Words.{Words}
 use Rattle.blocks.proofs.Bridge.{proper-by, words-of}
+use Rattle.gf128.specs.Gf128.{power, signed}
 use Rattle.mode.specs.Powers.{workedOut}
 use Rattle.mode.proofs.power.LastPower.work_out.Statement.{statement}
 use Rattle.mode.proofs.power.LastPower.work_out.Tie as tie
