@@ -3,13 +3,11 @@ use mathlib.Core.Path.{_≡_, sym, ap, ap₂, subst, _∙_}
 use mathlib.Core.List.{List, _++_}
 use Prim.Native.Nat.{ℕ, _+_, _<_}
 use native.Mathlib.Omega.{arith}
-use lib.Dec.{lit<}
 use lib.ListN.{length, take, drop}
 use Rattle.blocks.specs.Bytes.{firstBlocks}
-use Rattle.blocks.proofs.Chunks.{length-blocks}
 use Rattle.groups.specs.Group.{blockOf, inFront}
 use Rattle.groups.proofs.Front.{front-blocks}
-use Rattle.fips197.proofs.Lengths.{AllLong, long-firstBlocks, length-firstHalf, length-secondHalf, length-invFirstHalf}
+use Rattle.fips197.proofs.Lengths.{AllLong, eleven, long-firstBlocks, length-firstHalf, length-secondHalf, length-invFirstHalf}
 use Rattle.aes_tables.specs.Half.{halfOf, TableOf}
 use Rattle.aes_tables.specs.declared.group.Half.{Half}
 use Rattle.aes_tables.specs.declared.group.Half.the-variants.{First, Second, InvFirst}
@@ -27,17 +25,14 @@ put-half which half ks at old new block after eh eb ea en =
 -- ---- lengths
 
 module _ (keys : List ℕ) (long : length keys ≡ 176) where
-  pub eleven : 10 < length (firstBlocks 11 keys)
-  eleven = rw (length-blocks 11 keys) (lit< tt)
-
   all-long : AllLong (firstBlocks 11 keys)
   all-long = long-firstBlocks 11 keys (omega (arith, long))
 
   pub length-half : (half : Half) (s : List ℕ) → length s ≡ 16 → length (halfOf half (firstBlocks 11 keys) s) ≡ 16
   unfolding halfOf
-  length-half First s e = length-firstHalf 5 10 (firstBlocks 11 keys) all-long eleven s e
-  length-half Second s e = length-secondHalf 5 10 (firstBlocks 11 keys) all-long eleven s
-  length-half InvFirst s e = length-invFirstHalf 5 10 (firstBlocks 11 keys) all-long eleven s e
+  length-half First s e = length-firstHalf 5 10 (firstBlocks 11 keys) all-long (eleven keys) s e
+  length-half Second s e = length-secondHalf 5 10 (firstBlocks 11 keys) all-long (eleven keys) s
+  length-half InvFirst s e = length-invFirstHalf 5 10 (firstBlocks 11 keys) all-long (eleven keys) s e
 
   -- each block of a text taken through a half
   pub halved : (half : Half) (n : ℕ) (b : ℕ → List ℕ) (old new : List ℕ) → ((i : ℕ) → length (b i) ≡ 16) → ((i : ℕ) → i < n → blockOf old i ≡ b i)

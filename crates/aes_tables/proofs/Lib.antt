@@ -1,5 +1,3 @@
--- How this engine comes to FIPS 197's definitions. Lookup: the tables. Columns: how a state is written. Expand: the key schedule.
+-- How this engine comes to FIPS 197's definitions. Lookup: the tables. Halves: what each half asks and leaves.
 pub mod Lookup
 pub mod Halves
-pub mod Columns
-pub mod Expand

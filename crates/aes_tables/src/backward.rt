@@ -15,8 +15,8 @@ fn inv_round(s: [u8; 16], keys: &[u8; 176], n: usize, inv_sbox: &[u8; 256]) -> [
     requires { ⌜ Tabulates (now «inv_sbox») invSbox ⌝ }
     ensures { λ r. ⌜ r ≡ invRound s (getD (firstBlocks 11 (now (keys .entry))) n []) ⌝ }
 {
-    let a = crate::state::add_round_key(s, keys, n);
-    let b = crate::state::inv_mix_columns(a);
+    let a = aes_steps::state::add_round_key(s, keys, n);
+    let b = aes_steps::state::inv_mix_columns(a);
     crate::state::inv_shift_sub(b, inv_sbox)
 }
 
@@ -51,7 +51,7 @@ pub fn inv_first_half(s: [u8; 16], keys: &[u8; 176], inv_sbox: &[u8; 256]) -> [u
     ensures { λ r. ⌜ r ≡ invFirstHalf 5 (firstBlocks 11 (now (keys .entry))) s ⌝ }
 {
     let t = inv_rounds(s, keys, 1, 6, inv_sbox);
-    crate::state::add_round_key(t, keys, 0)
+    aes_steps::state::add_round_key(t, keys, 0)
 }
 
 // Rounds 10 to 6 undone.
@@ -60,7 +60,7 @@ pub fn inv_second_half(s: [u8; 16], keys: &[u8; 176], inv_sbox: &[u8; 256]) -> [
     requires { ⌜ Tabulates (now «inv_sbox») invSbox ⌝ }
     ensures { λ r. ⌜ r ≡ invSecondHalf 5 10 (firstBlocks 11 (now (keys .entry))) s ⌝ }
 {
-    let t = crate::state::add_round_key(s, keys, 10);
+    let t = aes_steps::state::add_round_key(s, keys, 10);
     let u = crate::state::inv_shift_sub(t, inv_sbox);
     inv_rounds(u, keys, 6, 10, inv_sbox)
 }

@@ -16,8 +16,8 @@ fn round(s: [u8; 16], keys: &[u8; 176], n: usize, sbox: &[u8; 256]) -> [u8; 16]
     ensures { λ r. ⌜ r ≡ roundOf s (getD (firstBlocks 11 (now (keys .entry))) n []) ⌝ }
 {
     let a = crate::state::sub_shift(s, sbox);
-    let b = crate::state::mix_columns(a);
-    crate::state::add_round_key(b, keys, n)
+    let b = aes_steps::state::mix_columns(a);
+    aes_steps::state::add_round_key(b, keys, n)
 }
 
 // A round with each key from `from` up to, not including, `to`.
@@ -44,7 +44,7 @@ pub fn first_half(s: [u8; 16], keys: &[u8; 176], sbox: &[u8; 256]) -> [u8; 16]
     requires { ⌜ Tabulates (now sbox) sboxOf ⌝ }
     ensures { λ r. ⌜ r ≡ firstHalf 5 (firstBlocks 11 (now (keys .entry))) s ⌝ }
 {
-    let t = crate::state::add_round_key(s, keys, 0);
+    let t = aes_steps::state::add_round_key(s, keys, 0);
     rounds(t, keys, 1, 6, sbox)
 }
 
@@ -56,5 +56,5 @@ pub fn second_half(s: [u8; 16], keys: &[u8; 176], sbox: &[u8; 256]) -> [u8; 16]
 {
     let t = rounds(s, keys, 6, 10, sbox);
     let u = crate::state::sub_shift(t, sbox);
-    crate::state::add_round_key(u, keys, 10)
+    aes_steps::state::add_round_key(u, keys, 10)
 }

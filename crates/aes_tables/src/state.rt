@@ -1,34 +1,8 @@
-// FIPS 197, 5.1 and 5.3: the steps of a round. A state is 16 bytes, column after column.
+// FIPS 197, 5.1 and 5.3: the S-box at each byte of a state, by its table, with ShiftRows or its inverse.
 ghost use mathlib.Core.Path.{_≡_};
-ghost use mathlib.Core.List.{[]};
-ghost use Prim.Native.Nat.{_<_};
-ghost use lib.Bits.{bitXor};
-ghost use lib.ListN.{length, getD};
-ghost use Rattle.blocks.specs.Bytes.{firstBlocks};
-ghost use Rattle.fips197.specs.Gf256.{xtimes, gmul};
 ghost use Rattle.fips197.specs.Sbox.{sbox as sboxOf, invSbox};
-ghost use Rattle.fips197.specs.State.{subBytes, invSubBytes, shiftRows, invShiftRows, mix as mixOf, mixColumns, invMixColumns, addRoundKey};
+ghost use Rattle.fips197.specs.State.{subBytes, invSubBytes, shiftRows, invShiftRows};
 ghost use Rattle.aes_tables.specs.Table.{Tabulates};
-
-// A byte times x.
-fn double(x: u8) -> u8
-    ensures { λ r. ⌜ r ≡ xtimes x ⌝ }
-{
-    (x << 1) ^ ((x >> 7) * 0x1b)
-}
-
-// Round key n added to a state.
-pub(crate) fn add_round_key(s: [u8; 16], keys: &[u8; 176], n: usize) -> [u8; 16]
-    requires { ⌜ length (now keys) ≡ 176 ⌝ }
-    requires { ⌜ n < 11 ⌝ }
-    ensures { λ r. ⌜ r ≡ addRoundKey s (getD (firstBlocks 11 (now (keys .entry))) n []) ⌝ }
-{
-    let mut r = [0u8; 16];
-    for i in 0..16 {
-        r[i] = s[i] ^ keys[n * 16 + i];
-    }
-    r
-}
 
 // SubBytes and ShiftRows at once.
 pub(crate) fn sub_shift(s: [u8; 16], sbox: &[u8; 256]) -> [u8; 16]
@@ -50,59 +24,6 @@ pub(crate) fn inv_shift_sub(s: [u8; 16], inv_sbox: &[u8; 256]) -> [u8; 16]
     let mut r = [0u8; 16];
     for i in 0..16 {
         r[i] = inv_sbox[s[(i + 16 - i % 4 * 4) % 16] as usize];
-    }
-    r
-}
-
-// 02 a + 03 b + c + d, with one doubling.
-fn mix(a: u8, b: u8, c: u8, d: u8) -> u8
-    ensures { λ r. ⌜ r ≡ mixOf a b c d ⌝ }
-{
-    double(a ^ b) ^ (b ^ (c ^ d))
-}
-
-pub(crate) fn mix_columns(s: [u8; 16]) -> [u8; 16]
-    ensures { λ r. ⌜ r ≡ mixColumns s ⌝ }
-{
-    let mut r = [0u8; 16];
-    let mut i: usize = 0;
-    while i < 16 {
-        let a = s[i];
-        let b = s[i + 1];
-        let c = s[i + 2];
-        let d = s[i + 3];
-        r[i] = mix(a, b, c, d);
-        r[i + 1] = mix(b, c, d, a);
-        r[i + 2] = mix(c, d, a, b);
-        r[i + 3] = mix(d, a, b, c);
-        i += 4;
-    }
-    r
-}
-
-// 05 a + 04 c, with two doublings.
-fn even(a: u8, c: u8) -> u8
-    ensures { λ r. ⌜ r ≡ bitXor (gmul 0x05 a) (gmul 0x04 c) ⌝ }
-{
-    a ^ double(double(a ^ c))
-}
-
-// The matrix of InvMixColumns is that of MixColumns times the circulant of 05, 00, 04, 00.
-pub(crate) fn inv_mix_columns(s: [u8; 16]) -> [u8; 16]
-    ensures { λ r. ⌜ r ≡ invMixColumns s ⌝ }
-{
-    let mut r = [0u8; 16];
-    let mut i: usize = 0;
-    while i < 16 {
-        let a = even(s[i], s[i + 2]);
-        let b = even(s[i + 1], s[i + 3]);
-        let c = even(s[i + 2], s[i]);
-        let d = even(s[i + 3], s[i + 1]);
-        r[i] = mix(a, b, c, d);
-        r[i + 1] = mix(b, c, d, a);
-        r[i + 2] = mix(c, d, a, b);
-        r[i + 3] = mix(d, a, b, c);
-        i += 4;
     }
     r
 }

@@ -11,6 +11,7 @@ pub fn expand(engine: u8, key: [u8; 16]) -> [u8; crate::KEYS]
     ensures { λ r. ⌜ Expands key r ⌝ }
 {
     match engine {
+        crate::ARITHMETIC => aes_arithmetic::key::expand(key),
         _ => aes_tables::key::expand(key),
     }
 }
@@ -21,6 +22,7 @@ pub fn encrypt_block(engine: u8, block: [u8; 16], keys: &[u8; crate::KEYS]) -> [
     ensures { λ r. ⌜ r ≡ encryptOf (keyOf (now (keys .entry))) block ⌝ }
 {
     match engine {
+        crate::ARITHMETIC => aes_arithmetic::block::encrypt(block, keys),
         _ => aes_tables::block::encrypt(block, keys),
     }
 }
@@ -31,6 +33,7 @@ pub fn decrypt_block(engine: u8, block: [u8; 16], keys: &[u8; crate::KEYS]) -> [
     ensures { λ r. ⌜ r ≡ decryptOf (keyOf (now (keys .entry))) block ⌝ }
 {
     match engine {
+        crate::ARITHMETIC => aes_arithmetic::block::decrypt(block, keys),
         _ => aes_tables::block::decrypt(block, keys),
     }
 }
@@ -50,6 +53,7 @@ pub fn encrypt(
     ensures { λ _. ⌜ Enciphered n (keyOf (now (keys .entry))) (now (group .entry)) (now (group .exit)) (now (middle .exit)) ⌝ }
 {
     match engine {
+        crate::ARITHMETIC => aes_arithmetic::group::encrypt(group, middle, n, keys),
         _ => aes_tables::group::encrypt(group, middle, n, keys),
     }
 }
@@ -69,6 +73,7 @@ pub fn decrypt(
     ensures { λ _. ⌜ Deciphered n (keyOf (now (keys .entry))) (now (group .entry)) (now (group .exit)) (now (middle .exit)) ⌝ }
 {
     match engine {
+        crate::ARITHMETIC => aes_arithmetic::group::decrypt(group, middle, n, keys),
         _ => aes_tables::group::decrypt(group, middle, n, keys),
     }
 }
@@ -81,6 +86,7 @@ pub fn middletexts(engine: u8, group: &mut [u64; groups::WORDS], n: usize, keys:
     ensures { λ _. ⌜ Middletexts n (keyOf (now (keys .entry))) (now (group .entry)) (now (group .exit)) ⌝ }
 {
     match engine {
+        crate::ARITHMETIC => aes_arithmetic::group::middletexts(group, n, keys),
         _ => aes_tables::group::middletexts(group, n, keys),
     }
 }

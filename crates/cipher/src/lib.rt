@@ -12,6 +12,9 @@ pub mod by; // by.rt: the same functions, by the number of an engine
 // The engine of two byte tables.
 pub const TABLES: u8 = 0;
 
+// The engine that works the S-box out, with no table indexed by data.
+pub const ARITHMETIC: u8 = 1;
+
 // THE ENGINE that everything above runs on.
 pub const ENGINE: u8 = TABLES;
 

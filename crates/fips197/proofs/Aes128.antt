@@ -7,16 +7,12 @@ use native.Mathlib.Omega.{arith}
 use lib.Dec.{lit<, lit≤}
 use lib.ListN.{length}
 use Rattle.blocks.specs.Bytes.{Block, Blocks, firstBlocks}
-use Rattle.blocks.proofs.Chunks.{length-blocks}
 use Rattle.fips197.specs.KeyExpansion.{keyExpansion, roundKeys}
 use Rattle.fips197.specs.Cipher as C
 use Rattle.fips197.specs.Aes128.{keys, firstHalf, secondHalf, invFirstHalf, invSecondHalf, encrypt, decrypt}
 use Rattle.fips197.proofs.Rounds as R
 use Rattle.fips197.proofs.KeyExpansion.{blocks-roundKeys}
-
-eleven : (key : List ℕ) → 10 < length (keys key)
-unfolding keys roundKeys
-eleven key = rw (length-blocks 11 (keyExpansion 4 10 key)) (lit< tt)
+use Rattle.fips197.proofs.Lengths.{eleven-keys}
 
 -- ---- what the code works out, with an expanded key, is the cipher and its halves under that key
 
@@ -53,16 +49,16 @@ module _ (key w : List ℕ) (e : w ≡ keyExpansion 4 10 key) where
 
 pub encrypt-halves : (key s : List ℕ) → secondHalf key (firstHalf key s) ≡ encrypt key s
 unfolding firstHalf secondHalf encrypt
-encrypt-halves key s = R.halves-cipher 5 10 (keys key) (lit< tt) (eleven key) s
+encrypt-halves key s = R.halves-cipher 5 10 (keys key) (lit< tt) (eleven-keys key) s
 
 pub decrypt-halves : (key s : List ℕ) → invFirstHalf key (invSecondHalf key s) ≡ decrypt key s
 unfolding invFirstHalf invSecondHalf decrypt
-decrypt-halves key s = R.halves-invCipher 5 10 (keys key) (lit< tt) (eleven key) s
+decrypt-halves key s = R.halves-invCipher 5 10 (keys key) (lit< tt) (eleven-keys key) s
 
 -- the first half ends after round 5
 pub first-after : (key s : List ℕ) → firstHalf key s ≡ C.afterRound (keys key) s 5
 unfolding firstHalf
-first-after key s = R.first-after 5 (keys key) s (omega (arith, eleven key))
+first-after key s = R.first-after 5 (keys key) s (omega (arith, eleven-keys key))
 
 module _ (key : List ℕ) (hk : Block key) where
   pub blocks-keys : Blocks (keys key)
@@ -73,37 +69,37 @@ module _ (key : List ℕ) (hk : Block key) where
 
   pub block-first : (s : List ℕ) → Block s → Block (firstHalf key s)
   unfolding firstHalf
-  block-first = R.block-first 5 10 (keys key) blocks-keys (eleven key)
+  block-first = R.block-first 5 10 (keys key) blocks-keys (eleven-keys key)
 
   pub block-second : (s : List ℕ) → Block s → Block (secondHalf key s)
   unfolding secondHalf
-  block-second = R.block-second 5 10 (keys key) blocks-keys (eleven key)
+  block-second = R.block-second 5 10 (keys key) blocks-keys (eleven-keys key)
 
   pub block-invFirst : (s : List ℕ) → Block s → Block (invFirstHalf key s)
   unfolding invFirstHalf
-  block-invFirst = R.block-invFirst 5 10 (keys key) blocks-keys (eleven key)
+  block-invFirst = R.block-invFirst 5 10 (keys key) blocks-keys (eleven-keys key)
 
   pub block-invSecond : (s : List ℕ) → Block s → Block (invSecondHalf key s)
   unfolding invSecondHalf
-  block-invSecond = R.block-invSecond 5 10 (keys key) blocks-keys (eleven key)
+  block-invSecond = R.block-invSecond 5 10 (keys key) blocks-keys (eleven-keys key)
 
   -- ---- each half undoes its inverse
 
   pub first-undone : (s : List ℕ) → Block s → invFirstHalf key (firstHalf key s) ≡ s
   unfolding firstHalf invFirstHalf
-  first-undone = R.first-undone 5 10 (keys key) blocks-keys (eleven key)
+  first-undone = R.first-undone 5 10 (keys key) blocks-keys (eleven-keys key)
 
   pub first-redone : (s : List ℕ) → Block s → firstHalf key (invFirstHalf key s) ≡ s
   unfolding firstHalf invFirstHalf
-  first-redone = R.first-redone 5 10 (keys key) blocks-keys (eleven key)
+  first-redone = R.first-redone 5 10 (keys key) blocks-keys (eleven-keys key)
 
   pub second-undone : (s : List ℕ) → Block s → invSecondHalf key (secondHalf key s) ≡ s
   unfolding secondHalf invSecondHalf
-  second-undone = R.second-undone 5 10 (keys key) blocks-keys (eleven key)
+  second-undone = R.second-undone 5 10 (keys key) blocks-keys (eleven-keys key)
 
   pub second-redone : (s : List ℕ) → Block s → secondHalf key (invSecondHalf key s) ≡ s
   unfolding secondHalf invSecondHalf
-  second-redone = R.second-redone 5 10 (keys key) blocks-keys (eleven key)
+  second-redone = R.second-redone 5 10 (keys key) blocks-keys (eleven-keys key)
 
   -- ---- so does the cipher
 

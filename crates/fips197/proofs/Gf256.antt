@@ -29,7 +29,7 @@ unfolding power
 power-lt b zero h = lit< tt
 power-lt b (suc n) h = gmul-lt b (power b n) (power-lt b n h)
 
-power-add : (b m n : ℕ) → b < 256 → gmul (power b m) (power b n) ≡ power b (m + n)
+pub power-add : (b m n : ℕ) → b < 256 → gmul (power b m) (power b n) ≡ power b (m + n)
 unfolding power
 power-add b zero n h =
     let l : power b n < 256 = power-lt b n h in

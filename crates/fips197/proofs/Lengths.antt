@@ -47,6 +47,10 @@ long-firstBlocks (suc n) a l =
     let e : suc n * 16 ≡ n * 16 + 16 = suc-mul n 16 in
     (length-take 16 a ∙ omega arith, long-firstBlocks n (drop 16 a) (rw length-drop (omega arith)))
 
+-- a schedule of AES-128 has eleven round keys
+pub eleven : (w : List ℕ) → 10 < length (firstBlocks 11 w)
+eleven w = rw (length-blocks 11 w) (lit< tt)
+
 -- ---- rounds
 
 length-add : (s k : List ℕ) → length s ≡ 16 → length k ≡ 16 → length (xorBytes s k) ≡ 16
@@ -87,26 +91,26 @@ length-invSecondHalf h nr ks s = length-invRounds (slice (suc h) nr ks) (invLast
 
 -- ---- those of AES-128
 
+pub eleven-keys : (key : List ℕ) → 10 < length (keys key)
+unfolding keys roundKeys
+eleven-keys key = eleven (keyExpansion 4 10 key)
+
 module _ (key : List ℕ) (hk : length key ≡ 16) where
   long-keys : AllLong (keys key)
   unfolding keys roundKeys keyExpansion
   long-keys = long-firstBlocks 11 (words 4 key 40) (omega (arith, length-words 4 key 40 hk))
 
-  eleven : 10 < length (keys key)
-  unfolding keys roundKeys
-  eleven = rw (length-blocks 11 (keyExpansion 4 10 key)) (lit< tt)
-
   pub length-first : (s : List ℕ) → length s ≡ 16 → length (firstHalf key s) ≡ 16
   unfolding firstHalf
-  length-first = length-firstHalf 5 10 (keys key) long-keys eleven
+  length-first = length-firstHalf 5 10 (keys key) long-keys (eleven-keys key)
 
   pub length-second : (s : List ℕ) → length s ≡ 16 → length (secondHalf key s) ≡ 16
   unfolding secondHalf
-  length-second s e = length-secondHalf 5 10 (keys key) long-keys eleven s
+  length-second s e = length-secondHalf 5 10 (keys key) long-keys (eleven-keys key) s
 
   pub length-invFirst : (s : List ℕ) → length s ≡ 16 → length (invFirstHalf key s) ≡ 16
   unfolding invFirstHalf
-  length-invFirst = length-invFirstHalf 5 10 (keys key) long-keys eleven
+  length-invFirst = length-invFirstHalf 5 10 (keys key) long-keys (eleven-keys key)
 
   pub length-invSecond : (s : List ℕ) → length s ≡ 16 → length (invSecondHalf key s) ≡ 16
   unfolding invSecondHalf

@@ -6,7 +6,7 @@ use Rattle.blocks.specs.Bytes.{firstBlocks}
 use Rattle.fips197.specs.Cipher.{invFirstHalf}
 use Rattle.fips197.proofs.Rounds.{halves-invCipher}
 use Rattle.aes_tables.proofs.Lookup.{invSbox-table}
-use Rattle.aes_tables.proofs.Halves.{eleven}
+use Rattle.fips197.proofs.Lengths.{eleven}
 use Rattle.aes_tables.proofs.block.decrypt.Statement.{statement}
 use Rattle.aes_tables.proofs.block.decrypt.Tie as tie
 
@@ -21,7 +21,7 @@ returns c =
     let s = c .before .before .before in
     let a = s .args in
     c .inv-first-half .ensures ∙ ap (invFirstHalf 5 (firstBlocks 11 (a .keys .now))) (c .before .inv-second-half .ensures)
-    ∙ halves-invCipher 5 10 (firstBlocks 11 (a .keys .now)) (lit< tt) (eleven (a .keys .now) (s .pre)) (a .block)
+    ∙ halves-invCipher 5 10 (firstBlocks 11 (a .keys .now)) (lit< tt) (eleven (a .keys .now)) (a .block)
 
 pub decrypt-spec : {M : Type 1} → statement M
 decrypt-spec = tie.close (tie.spec inv-second-half-requires inv-first-half-requires returns)

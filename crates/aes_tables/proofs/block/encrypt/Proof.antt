@@ -6,7 +6,7 @@ use Rattle.blocks.specs.Bytes.{firstBlocks}
 use Rattle.fips197.specs.Cipher.{secondHalf}
 use Rattle.fips197.proofs.Rounds.{halves-cipher}
 use Rattle.aes_tables.proofs.Lookup.{sbox-table}
-use Rattle.aes_tables.proofs.Halves.{eleven}
+use Rattle.fips197.proofs.Lengths.{eleven}
 use Rattle.aes_tables.proofs.block.encrypt.Statement.{statement}
 use Rattle.aes_tables.proofs.block.encrypt.Tie as tie
 
@@ -21,7 +21,7 @@ returns c =
     let s = c .before .before .before in
     let a = s .args in
     c .second-half .ensures ∙ ap (secondHalf 5 10 (firstBlocks 11 (a .keys .now))) (c .before .first-half .ensures)
-    ∙ halves-cipher 5 10 (firstBlocks 11 (a .keys .now)) (lit< tt) (eleven (a .keys .now) (s .pre)) (a .block)
+    ∙ halves-cipher 5 10 (firstBlocks 11 (a .keys .now)) (lit< tt) (eleven (a .keys .now)) (a .block)
 
 pub encrypt-spec : {M : Type 1} → statement M
 encrypt-spec = tie.close (tie.spec first-half-requires second-half-requires returns)

@@ -9,7 +9,7 @@ use lib.Seq.{take-at}
 use Rattle.blocks.specs.Bytes.{zeros}
 use Rattle.fips197.specs.KeyExpansion.{keyExpansion}
 use Rattle.aes_tables.proofs.Lookup.{sbox-table}
-use Rattle.aes_tables.proofs.Expand.{expanded, expanded-none, expanded-more, expanded-all, length-expanded}
+use Rattle.aes_steps.proofs.Words.{expanded, expanded-none, expanded-more, expanded-all, length-expanded}
 use Rattle.aes_tables.proofs.key.expand.Statement.{statement}
 use Rattle.aes_tables.proofs.key.expand.Tie as tie
 
@@ -53,17 +53,8 @@ add-temp-word c = search needs
 temp-word-requires : tie.Need-temp-word-requires Inv-loop μ-loop
 temp-word-requires c κs = (omega arith, (omega arith, sbox-table))
 
-word-at-requires-2 : tie.Need-word-at-requires-2 Inv-loop μ-loop
-word-at-requires-2 c κs = search needs
-
-xor-word-requires : tie.Need-xor-word-requires Inv-loop μ-loop
-xor-word-requires c κs = search needs
-
-add-put-word : tie.Need-add-put-word Inv-loop μ-loop
-add-put-word c = search needs
-
-put-word-requires : tie.Need-put-word-requires Inv-loop μ-loop
-put-word-requires c κs = (long-w (c .before .before .before .before .before .before .before .before), omega arith)
+next-word-requires : tie.Need-next-word-requires Inv-loop μ-loop
+next-word-requires c κs = (long-w (c .before .before .before .before .before), omega arith)
 
 add-n : tie.Need-add-n Inv-loop μ-loop
 add-n c = search needs
@@ -73,12 +64,10 @@ loop-less c = search needs
 
 loop-again : tie.Need-loop-again Inv-loop μ-loop
 loop-again c =
-    let l = c .before .before .before .before .before .before .before .before .before in
-    let n = l .loop .n in (
+    let l = c .before .before .before .before .before .before in (
       omega arith,
-      expanded-more (take 16 (l .before .first-words .result)) n (long (l .before)) (omega arith) (l .loop .w) _ _ _ _ (c .put-word .last .0) (l .loop .inv .1)
-          (c .before .before .before .before .before .before .word-at .ensures) (c .before .before .before .before .before .temp-word .ensures)
-          (c .before .before .before .word-at2 .ensures) (c .before .before .xor-word .ensures) (c .put-word .ensures),
+      expanded-more (take 16 (l .before .first-words .result)) (l .loop .n) (long (l .before)) (omega arith) (l .loop .w) _ _ (c .next-word .last .0) (l .loop .inv .1)
+          (c .before .before .before .word-at .ensures) (c .before .before .temp-word .ensures) (c .next-word .ensures),
     )
 
 returns : tie.Need-returns Inv-loop μ-loop
@@ -99,10 +88,7 @@ expand-spec =
     word-at-requires
     add-temp-word
     temp-word-requires
-    word-at-requires-2
-    xor-word-requires
-    add-put-word
-    put-word-requires
+    next-word-requires
     add-n
     loop-less
     loop-again

@@ -8,8 +8,14 @@ use Rattle.cipher.proofs.by.decrypt_block.Tie as tie
 decrypt-requires : tie.Need-decrypt-requires
 decrypt-requires c κs = search needs
 
+decrypt-requires-2 : tie.Need-decrypt-requires-2
+decrypt-requires-2 c κs = search needs
+
 returns : tie.Need-returns
-returns c = c .decrypt .ensures ∙ decrypt-is (c .before .args .keys .now) (c .before .pre) (c .before .args .block)
+returns c = let s = c .before .before in c .decrypt .ensures ∙ decrypt-is (s .args .keys .now) (s .pre) (s .args .block)
+
+returns-2 : tie.Need-returns-2
+returns-2 c = let s = c .before .before in c .decrypt2 .ensures ∙ decrypt-is (s .args .keys .now) (s .pre) (s .args .block)
 
 pub decrypt-block-spec : {M : Type 1} → statement M
-decrypt-block-spec = tie.close (tie.spec decrypt-requires returns)
+decrypt-block-spec = tie.close (tie.spec decrypt-requires decrypt-requires-2 returns returns-2)

@@ -7,8 +7,14 @@ use Rattle.cipher.proofs.by.encrypt.Tie as tie
 encrypt-requires : tie.Need-encrypt-requires
 encrypt-requires c κs = search needs
 
+encrypt-requires-2 : tie.Need-encrypt-requires-2
+encrypt-requires-2 c κs = search needs
+
 returns : tie.Need-returns
-returns c = let s = c .before .before .before in enciphered (s .args .keys .now) (s .pre .1 .1 .1) (s .args .n) _ _ _ (c .encrypt .ensures .0) (c .encrypt .ensures .1)
+returns c = let s = c .before .before .before .before in enciphered (s .args .keys .now) (s .pre .1 .1 .1) (s .args .n) _ _ _ (c .encrypt .ensures .0) (c .encrypt .ensures .1)
+
+returns-2 : tie.Need-returns-2
+returns-2 c = let s = c .before .before .before .before in enciphered (s .args .keys .now) (s .pre .1 .1 .1) (s .args .n) _ _ _ (c .encrypt2 .ensures .0) (c .encrypt2 .ensures .1)
 
 pub encrypt-spec : {M : Type 1} → statement M
-encrypt-spec = tie.close (tie.spec encrypt-requires returns)
+encrypt-spec = tie.close (tie.spec encrypt-requires encrypt-requires-2 returns returns-2)

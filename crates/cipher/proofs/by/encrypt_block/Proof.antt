@@ -8,8 +8,14 @@ use Rattle.cipher.proofs.by.encrypt_block.Tie as tie
 encrypt-requires : tie.Need-encrypt-requires
 encrypt-requires c κs = search needs
 
+encrypt-requires-2 : tie.Need-encrypt-requires-2
+encrypt-requires-2 c κs = search needs
+
 returns : tie.Need-returns
-returns c = c .encrypt .ensures ∙ encrypt-is (c .before .args .keys .now) (c .before .pre) (c .before .args .block)
+returns c = let s = c .before .before in c .encrypt .ensures ∙ encrypt-is (s .args .keys .now) (s .pre) (s .args .block)
+
+returns-2 : tie.Need-returns-2
+returns-2 c = let s = c .before .before in c .encrypt2 .ensures ∙ encrypt-is (s .args .keys .now) (s .pre) (s .args .block)
 
 pub encrypt-block-spec : {M : Type 1} → statement M
-encrypt-block-spec = tie.close (tie.spec encrypt-requires returns)
+encrypt-block-spec = tie.close (tie.spec encrypt-requires encrypt-requires-2 returns returns-2)

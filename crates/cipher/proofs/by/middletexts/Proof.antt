@@ -7,8 +7,14 @@ use Rattle.cipher.proofs.by.middletexts.Tie as tie
 middletexts-requires : tie.Need-middletexts-requires
 middletexts-requires c κs = search needs
 
+middletexts-requires-2 : tie.Need-middletexts-requires-2
+middletexts-requires-2 c κs = search needs
+
 returns : tie.Need-returns
-returns c = let s = c .before .before in middletexts-are (s .args .keys .now) (s .pre .1 .1) (s .args .n) _ _ (c .middletexts .ensures)
+returns c = let s = c .before .before .before in middletexts-are (s .args .keys .now) (s .pre .1 .1) (s .args .n) _ _ (c .middletexts .ensures)
+
+returns-2 : tie.Need-returns-2
+returns-2 c = let s = c .before .before .before in middletexts-are (s .args .keys .now) (s .pre .1 .1) (s .args .n) _ _ (c .middletexts2 .ensures)
 
 pub middletexts-spec : {M : Type 1} → statement M
-middletexts-spec = tie.close (tie.spec middletexts-requires returns)
+middletexts-spec = tie.close (tie.spec middletexts-requires middletexts-requires-2 returns returns-2)

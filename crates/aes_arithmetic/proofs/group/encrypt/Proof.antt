@@ -1,0 +1,87 @@
+-- The blocks that the loop has taken through both halves.
+use borrow.Author.Needs.{needs}
+use mathlib.Core.List.{List}
+use Prim.Native.Nat.{ℕ, _-_, _≤_}
+use Rattle.blocks.specs.Bytes.{firstBlocks}
+use Rattle.fips197.specs.Cipher.{firstHalf, secondHalf}
+use Rattle.aes_arithmetic.proofs.Through.{Through, through-begins, through-turn, through-blocks, through-between}
+use Rattle.aes_arithmetic.proofs.group.encrypt.Statement.{statement}
+use Rattle.aes_arithmetic.proofs.group.encrypt.Tie as tie
+
+abbrev Inv-loop : tie.InvT-loop
+Inv-loop group₀ middle₀ n keys i₀ group middle i = (i ≤ n) × Through (firstHalf 5 (firstBlocks 11 keys)) (secondHalf 5 10 (firstBlocks 11 keys)) i group₀ group middle₀ middle
+
+abbrev μ-loop : tie.MeasureT-loop
+μ-loop group₀ middle₀ n keys i₀ group middle i = n - i
+
+loop-holds : tie.Need-loop-holds Inv-loop μ-loop
+loop-holds c = (search needs, through-begins _ _ _ _ (c .pre .0) (c .pre .1 .0))
+
+get-requires : tie.Need-get-requires Inv-loop μ-loop
+get-requires c κs = search needs
+
+to-bytes-requires : tie.Need-to-bytes-requires Inv-loop μ-loop
+to-bytes-requires c κs = search needs
+
+first-half-requires : tie.Need-first-half-requires Inv-loop μ-loop
+first-half-requires c κs = search needs
+
+from-bytes-requires : tie.Need-from-bytes-requires Inv-loop μ-loop
+from-bytes-requires c κs = search needs
+
+put-requires : tie.Need-put-requires Inv-loop μ-loop
+put-requires c κs = search needs
+
+second-half-requires : tie.Need-second-half-requires Inv-loop μ-loop
+second-half-requires c κs = search needs
+
+from-bytes-requires-2 : tie.Need-from-bytes-requires-2 Inv-loop μ-loop
+from-bytes-requires-2 c κs = search needs
+
+put-requires-2 : tie.Need-put-requires-2 Inv-loop μ-loop
+put-requires-2 c κs = search needs
+
+add-i : tie.Need-add-i Inv-loop μ-loop
+add-i c = search needs
+
+loop-less : tie.Need-loop-less Inv-loop μ-loop
+loop-less c = search needs
+
+loop-again : tie.Need-loop-again Inv-loop μ-loop
+loop-again c =
+    let p = c .before .before .before .before in
+    let h = p .before .before .before in
+    let g = h .before .before in
+    let l = g .before .before .before in (
+      search needs,
+      through-turn _ _ (l .loop .i) _ (l .loop .group) (c .put2 .last .0) _ (l .loop .middle) (p .put .last .0) (l .loop .inv .1) (g .get .ensures)
+          (h .before .to-bytes .ensures) (h .first-half .ensures) (p .before .before .from-bytes .ensures) (p .put .ensures)
+          (c .before .before .before .second-half .ensures) (c .before .before .from-bytes2 .ensures) (c .put2 .ensures),
+    )
+
+returns : tie.Need-returns Inv-loop μ-loop
+returns c =
+    let l = c .before in (
+      through-between _ _ (l .loop .i) _ _ _ _ _ (l .loop .inv .1) (c .loop-test .left),
+      through-blocks _ _ (l .loop .i) _ _ _ _ _ (l .loop .inv .1) (c .loop-test .left),
+    )
+
+pub encrypt-spec : {M : Type 1} → statement M
+encrypt-spec =
+    tie.close
+    (tie.spec
+    Inv-loop
+    μ-loop
+    loop-holds
+    get-requires
+    to-bytes-requires
+    first-half-requires
+    from-bytes-requires
+    put-requires
+    second-half-requires
+    from-bytes-requires-2
+    put-requires-2
+    add-i
+    loop-less
+    loop-again
+    returns)

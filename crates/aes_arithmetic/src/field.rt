@@ -1,0 +1,55 @@
+// FIPS 197, 4.2 and 4.4: products of bytes and the inverse, in each byte of a block.
+ghost use mathlib.Core.Path.{_≡_};
+ghost use Prim.Native.Nat.{_*_, _≤_};
+ghost use lib.ListN.{getD};
+ghost use Rattle.blocks.specs.Tab.{tab};
+ghost use Rattle.fips197.specs.Gf256.{gmul, inverse};
+
+// A byte where the bit is set, and zero where it is not.
+fn where_set(bit: u8, b: u8) -> u8
+    requires { ⌜ bit ≤ 1 ⌝ }
+    ensures { λ r. ⌜ r ≡ bit * b ⌝ }
+{
+    bit * b
+}
+
+// The product of two bytes, by the bits of the first from the top: what there is, times x, and the second byte where the bit is set.
+fn product(a: u8, b: u8) -> u8
+    ensures { λ r. ⌜ r ≡ gmul a b ⌝ }
+{
+    let mut r: u8 = 0;
+    let mut i: u32 = 8;
+    while 0 < i {
+        i -= 1;
+        r = aes_steps::state::double(r) ^ where_set((a >> i) % 2, b);
+    }
+    r
+}
+
+// The product at each byte.
+fn products(a: [u8; 16], b: [u8; 16]) -> [u8; 16]
+    ensures { λ r. ⌜ r ≡ tab 16 (λ i. gmul (getD a i 0) (getD b i 0)) ⌝ }
+{
+    let mut r = [0u8; 16];
+    for i in 0..16 {
+        r[i] = product(a[i], b[i]);
+    }
+    r
+}
+
+// The inverse at each byte: the power 254, by eleven products.
+pub(crate) fn inverses(s: [u8; 16]) -> [u8; 16]
+    ensures { λ r. ⌜ r ≡ tab 16 (λ i. inverse (getD s i 0)) ⌝ }
+{
+    let s2 = products(s, s);
+    let s3 = products(s2, s);
+    let s6 = products(s3, s3);
+    let s12 = products(s6, s6);
+    let s15 = products(s12, s3);
+    let s30 = products(s15, s15);
+    let s60 = products(s30, s30);
+    let s120 = products(s60, s60);
+    let s240 = products(s120, s120);
+    let s252 = products(s240, s12);
+    products(s252, s2)
+}

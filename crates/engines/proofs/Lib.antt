@@ -1,0 +1,2 @@
+-- Found: equal lists are found the same.
+pub mod Found
