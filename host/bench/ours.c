@@ -1,5 +1,5 @@
-/* The proved library as a contestant. The bare cipher is in an archive of its own. Compiled again with other names for the functions and
-   CONTESTANT set, it is another build of the library. */
+/* The proved library as a contestant. The bare cipher is in an archive of its own. Compiled with other names for the functions and
+   with CONTESTANT and NAME set, it is another build of the library. */
 #include "balzenoh.h"
 #include "contestant.h"
 
@@ -31,5 +31,6 @@ static void decrypt(const uint8_t *key, const uint8_t *blocks, size_t length, ui
 
 #ifndef CONTESTANT
 #define CONTESTANT ours
+#define NAME "Balzenoh"
 #endif
-const struct contestant CONTESTANT = {"Balzenoh", seal, open, check, encrypt, decrypt};
+const struct contestant CONTESTANT = {NAME, seal, open, check, encrypt, decrypt};

@@ -35,17 +35,43 @@ fn the_benchmark_draws_its_chart_only_where_it_is_told_to() {
     }
 }
 
-/// Beside itself, since there is no other build here.
+/// One build twice, since there is no other here.
 #[test]
-fn the_benchmark_runs_beside_another_build() {
+fn the_benchmark_runs_builds_beside_each_other() {
     if !["gcc", "ld", "objcopy"].into_iter().all(present) || !cfg!(bare_cipher) {
-        return println!("the benchmark of two builds needs gcc, ld, objcopy and libaes_blocks.a: skipped");
+        return println!("the benchmark of several builds needs gcc, ld, objcopy and libaes_blocks.a: skipped");
     }
-    let checkout = Checkout::new("before");
-    assert!(told(&run(&checkout, "bench/before", &[ARCHIVES, "1"])).contains("times as fast"));
-    assert!(told(&run(&checkout, "bench/before", &["--help"])).contains("FOLDER [ROUNDS]"));
-    for wrong in [&[][..], &[ARCHIVES, "ten"], &[ARCHIVES, "0"], &[ARCHIVES, "1", "2"]] {
-        assert_eq!(run(&checkout, "bench/before", wrong).status.code(), Some(64), "{wrong:?}");
+    let checkout = Checkout::new("builds");
+    let (one, other) = (format!("one={ARCHIVES}"), format!("other={ARCHIVES}"));
+    let printed = told(&run(&checkout, "bench/builds", &[&one, &other, "1"]));
+    assert_eq!(printed.matches("other, times as fast").count(), 2, "{printed}");
+    assert!(told(&run(&checkout, "bench/builds", &["--help"])).contains("NAME=FOLDER... [ROUNDS]"));
+    for wrong in [&[][..], &["1"], &[&one, "ten"], &[&one, "0"], &[ARCHIVES]] {
+        assert_eq!(run(&checkout, "bench/builds", wrong).status.code(), Some(64), "{wrong:?}");
+    }
+}
+
+/// A face with two engines, the first of them chosen.
+const FACE: &str = "pub const TABLES: u8 = 0;\npub const ARITHMETIC: u8 = 1;\npub const ENGINE: u8 = TABLES;\n";
+
+#[test]
+fn an_engine_is_chosen_in_a_copy_of_the_crates() {
+    let checkout = Checkout::new("engine");
+    let face = "top/crates/cipher/src/lib.rt";
+    checkout.write(face, FACE);
+    let read = |name: &str| fs::read_to_string(checkout.path(name)).expect("a face");
+    assert_eq!(told(&checkout.run("./engine", &["--names"])), "tables\narithmetic\n");
+    let output = checkout.run("./engine", &["arithmetic"]);
+    told(&output);
+    // Standard output is the folder alone, and both archives are there.
+    let folder = String::from_utf8(output.stdout).expect("a name");
+    assert!(Path::new(folder.trim_end()).join("libbalzenoh.a").exists() && Path::new(folder.trim_end()).join("libaes_blocks.a").exists());
+    // The constant is another one in the copy, and nothing else.
+    assert_eq!(read("top/target/engines/arithmetic/crates/cipher/src/lib.rt"), FACE.replace("ENGINE: u8 = TABLES", "ENGINE: u8 = ARITHMETIC"));
+    assert_eq!(read(face), FACE);
+    assert!(told(&checkout.run("./engine", &["--help"])).contains("host/engine NAME"));
+    for wrong in [&[][..], &["engine"], &["ARITHMETIC"], &[""], &["tables", "arithmetic"]] {
+        assert_eq!(checkout.run("./engine", wrong).status.code(), Some(64), "{wrong:?}");
     }
 }
 

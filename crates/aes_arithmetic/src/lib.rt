@@ -2,7 +2,7 @@
 // or a word. The arithmetic is done in the 16 bytes of a block side by side.
 mod field; // field.rt: products, and the inverse
 mod affine; // affine.rt: the affine step and its inverse
-mod sbox; // sbox.rt: the S-box at each byte of a state or a word
+pub mod sbox; // sbox.rt: the S-box at each byte of a state or a word
 pub mod key; // key.rt: the key schedule
 mod forward; // forward.rt: rounds, and the two halves
 mod backward; // backward.rt: the same undone

@@ -4,7 +4,7 @@ ghost use Rattle.fips197.specs.State.{subBytes, invSubBytes};
 ghost use Rattle.fips197.specs.KeyExpansion.{subWord};
 
 // The inverse, then the affine step.
-pub(crate) fn sub_bytes(s: [u8; 16]) -> [u8; 16]
+pub fn sub_bytes(s: [u8; 16]) -> [u8; 16]
     ensures { λ r. ⌜ r ≡ subBytes s ⌝ }
 {
     let t = crate::field::inverses(s);
@@ -12,7 +12,7 @@ pub(crate) fn sub_bytes(s: [u8; 16]) -> [u8; 16]
 }
 
 // The affine step undone, then the inverse.
-pub(crate) fn inv_sub_bytes(s: [u8; 16]) -> [u8; 16]
+pub fn inv_sub_bytes(s: [u8; 16]) -> [u8; 16]
     ensures { λ r. ⌜ r ≡ invSubBytes s ⌝ }
 {
     let t = crate::affine::inv_affines(s);

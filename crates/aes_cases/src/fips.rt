@@ -1,4 +1,4 @@
-// The examples of FIPS 197: each function answers how many of its cases agree.
+// The examples of FIPS 197, on an engine by its number: each function answers how many of its cases agree.
 ghost use Prim.Native.Nat.{_<_, _≤_};
 use crate::agree::decrypts;
 use crate::agree::encrypts;
@@ -70,9 +70,9 @@ fn word(keys: &[u8; cipher::KEYS], i: usize) -> u32
         ^ wide(keys[at + 3])
 }
 
-pub fn key_expansion() -> usize {
+pub fn key_expansion(engine: u8) -> usize {
     let words = &WORDS;
-    let keys = cipher::expand(block(b"2b7e151628aed2a6abf7158809cf4f3c"));
+    let keys = cipher::by::expand(engine, block(b"2b7e151628aed2a6abf7158809cf4f3c"));
     let mut agreed: usize = 0;
     for i in 0..44 {
         agreed += one_if(word(&keys, i) == words[i]);
@@ -81,20 +81,22 @@ pub fn key_expansion() -> usize {
 }
 
 // Encryption and decryption of one block.
-fn both_ways(key: [u8; 16], plain: [u8; 16], cipher: [u8; 16]) -> usize {
-    encrypts(key, plain, cipher) + decrypts(key, plain, cipher)
+fn both_ways(engine: u8, key: [u8; 16], plain: [u8; 16], cipher: [u8; 16]) -> usize {
+    encrypts(engine, key, plain, cipher) + decrypts(engine, key, plain, cipher)
 }
 
-pub fn appendix_b() -> usize {
+pub fn appendix_b(engine: u8) -> usize {
     both_ways(
+        engine,
         block(b"2b7e151628aed2a6abf7158809cf4f3c"),
         block(b"3243f6a8885a308d313198a2e0370734"),
         block(b"3925841d02dc09fbdc118597196a0b32"),
     )
 }
 
-pub fn appendix_c() -> usize {
+pub fn appendix_c(engine: u8) -> usize {
     both_ways(
+        engine,
         block(b"000102030405060708090a0b0c0d0e0f"),
         block(b"00112233445566778899aabbccddeeff"),
         block(b"69c4e0d86a7b0430d8cdb78070b4c55a"),
@@ -102,36 +104,10 @@ pub fn appendix_c() -> usize {
 }
 
 // Appendix C.1 prints the state after round 5 as `round[ 6].start`: from the plaintext, and from the ciphertext.
-pub fn appendix_c_middle() -> usize {
+pub fn appendix_c_middle(engine: u8) -> usize {
     let key = block(b"000102030405060708090a0b0c0d0e0f");
     let middle = block(b"c81677bc9b7ac93b25027992b0261996");
-    let forwards = first_half_gives(key, block(b"00112233445566778899aabbccddeeff"), middle);
-    let backwards = inv_second_half_gives(key, block(b"69c4e0d86a7b0430d8cdb78070b4c55a"), middle);
-    forwards + backwards
-}
-
-fn look_up(table: &[u8; 256], at: u8) -> u8 {
-    table[at as usize]
-}
-
-// How many entries of a table are as printed.
-fn entries(table: &[u8; 256], at: [u8; 5], printed: [u8; 5]) -> usize
-    ensures { λ r. ⌜ r ≤ 5 ⌝ }
-{
-    let mut agreed: usize = 0;
-    for i in 0..5 {
-        agreed += one_if(look_up(table, at[i]) == printed[i]);
-    }
-    agreed
-}
-
-// The corners of the two tables, an entry inside, and the byte that the inverse takes to 0.
-pub fn tables() -> usize {
-    let sbox = &aes_tables::sbox::SBOX;
-    let inv_sbox = &aes_tables::inv_sbox::INV_SBOX;
-    let at = [0x00, 0x0f, 0xf0, 0xff, 0x53];
-    let forwards = entries(sbox, at, [0x63, 0x76, 0x8c, 0x16, 0xed]);
-    let inv_at = [0x00, 0x0f, 0xf0, 0xff, 0x63];
-    let backwards = entries(inv_sbox, inv_at, [0x52, 0xfb, 0x17, 0x7d, 0x00]);
+    let forwards = first_half_gives(engine, key, block(b"00112233445566778899aabbccddeeff"), middle);
+    let backwards = inv_second_half_gives(engine, key, block(b"69c4e0d86a7b0430d8cdb78070b4c55a"), middle);
     forwards + backwards
 }

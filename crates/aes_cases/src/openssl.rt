@@ -14,7 +14,7 @@ pub struct Agreed {
 }
 
 // One line, counted by what agrees.
-fn run_line(text: &[u8], at: usize) -> Agreed
+fn run_line(engine: u8, text: &[u8], at: usize) -> Agreed
     requires { ⌜ at + 99 ≤ length (now text) ⌝ }
     ensures { λ r. ⌜ (r .encrypted ≤ 1) × (r .decrypted ≤ 1) × (r .met ≤ 1) ⌝ }
 {
@@ -22,20 +22,20 @@ fn run_line(text: &[u8], at: usize) -> Agreed
     let plain = block_at(text, at + 33);
     let cipher = block_at(text, at + 66);
     Agreed {
-        encrypted: encrypts(key, plain, cipher),
-        decrypted: decrypts(key, plain, cipher),
-        met: halves_meet(key, plain, cipher),
+        encrypted: encrypts(engine, key, plain, cipher),
+        decrypted: decrypts(engine, key, plain, cipher),
+        met: halves_meet(engine, key, plain, cipher),
     }
 }
 
-pub fn run(text: &[u8]) -> Agreed {
+pub fn run(engine: u8, text: &[u8]) -> Agreed {
     let mut encrypted: usize = 0;
     let mut decrypted: usize = 0;
     let mut met: usize = 0;
     let lines = text.len() / 99;
     let mut i: usize = 0;
     while i < lines {
-        let line = run_line(text, i * 99);
+        let line = run_line(engine, text, i * 99);
         encrypted += line.encrypted;
         decrypted += line.decrypted;
         met += line.met;

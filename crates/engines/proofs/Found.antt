@@ -1,4 +1,4 @@
--- Equal lists are found the same, and so are groups that hold the same blocks.
+-- Equal lists are found the same, and so are groups that agree.
 use mathlib.Core.Path.{_≡_, refl, sym, subst, ap, _∙_}
 use mathlib.Core.Bool.{Bool, true, false, _&&_}
 use mathlib.Core.List.{List, _∷_, _++_}
@@ -12,6 +12,7 @@ use Rattle.blocks.specs.Bytes.{same, zeros}
 use Rattle.blocks.proofs.Same.{same-refl}
 use Rattle.groups.specs.Group.{blockAt, Holds, inFront}
 use Rattle.groups.proofs.Front.{turn-as}
+use Rattle.engines.specs.Engines.{Agree}
 
 passes : (b : Bool) → T b → b ≡ true
 passes true t = refl
@@ -47,10 +48,9 @@ same-end x y i h e = sym (same-yes (drop i x) (drop i y) (drop-of-length-le x h 
 
 -- ---- groups
 
--- two groups whose blocks were those of g, each taken through F
-pub blocks-same : (n : ℕ) (F : List ℕ → List ℕ) (g : List ℕ) {x₀ x y₀ y : List ℕ} → Holds n (blockAt g) x₀ → Holds n (blockAt g) y₀
-    → Holds n (λ i. F (blockAt x₀ i)) x → Holds n (λ i. F (blockAt y₀ i)) y
-    → same (inFront n (blockAt x) (zeros 512)) (inFront n (blockAt y) (zeros 512)) ≡ true
-blocks-same n F g {x₀} {x} {y₀} {y} cx cy hx hy =
-    same-yes _ _
-    (ap (λ (z : List ℕ). z ++ drop (n * 16) (zeros 512)) (turn-as n (blockAt x) (blockAt y) (λ i l. hx .at i l ∙ ap F (cx .at i l ∙ sym (cy .at i l)) ∙ sym (hy .at i l))))
+-- two groups, each with the first n blocks of a third
+pub copies-agree : (n : ℕ) (group : List ℕ) {one other : List ℕ} → Holds n (blockAt group) one → Holds n (blockAt group) other → Agree n one other
+copies-agree n group c c′ = record { at = λ i l. c .at i l ∙ sym (c′ .at i l) }
+
+pub blocks-same : (n : ℕ) {one other : List ℕ} → Agree n one other → same (inFront n (blockAt one) (zeros 512)) (inFront n (blockAt other) (zeros 512)) ≡ true
+blocks-same n {one} {other} a = same-yes _ _ (ap (λ (z : List ℕ). z ++ drop (n * 16) (zeros 512)) (turn-as n (blockAt one) (blockAt other) (a .at)))

@@ -1,2 +1,3 @@
--- Found: equal lists are found the same.
+-- Engines: the theorem. Found: equal lists are found the same.
+pub mod Engines
 pub mod Found

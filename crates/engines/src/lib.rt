@@ -1,5 +1,6 @@
-// Any two engines are equal. `equal` runs two of them on the same key and the same blocks and compares all that they give; it is proved to
-// answer true for every two numbers and every input. That is the theorem, and a program can run it.
+// Any two engines are equal: specs/Engines has the theorem. Here it is brought to the code. `equal` runs two engines on the same key and the same
+// blocks and compares all that they give, and is proved to answer true for every two numbers and every input. Its contract would also be met by
+// a function that looks at nothing, so what is compared is to be read here.
 ghost use mathlib.Core.Path.{_≡_};
 ghost use mathlib.Core.Bool.{true};
 ghost use Prim.Native.Nat.{_≤_};
@@ -126,7 +127,7 @@ fn middletexts(
     same_blocks(&one, &other, n)
 }
 
-// ---- the theorem
+// ---- all of it
 
 // The schedules of a key, a block both ways, and n blocks of a group both ways with what lies between the halves.
 pub fn equal(

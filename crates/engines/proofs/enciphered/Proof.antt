@@ -1,10 +1,8 @@
--- Both engines give what FIPS 197 says of each block, and of its middletext.
+-- Whatever two engines give of the same blocks is the same.
 use borrow.Author.Needs.{needs}
-use mathlib.Core.Path.{_≡_, _∙_}
-use mathlib.Core.Bool.{true}
-use Rattle.fips197.specs.Aes128.{encrypt, firstHalf}
-use Rattle.cipher.specs.Keys.{keyOf}
-use Rattle.engines.proofs.Found.{blocks-same}
+use mathlib.Core.Path.{_∙_}
+use Rattle.engines.proofs.Engines.{engines-equal}
+use Rattle.engines.proofs.Found.{copies-agree, blocks-same}
 use Rattle.engines.proofs.enciphered.Statement.{statement}
 use Rattle.engines.proofs.enciphered.Tie as tie
 
@@ -33,7 +31,8 @@ returns c =
     let k = p .before .before .before in
     let a = k .before .before .before .before .args in
     c .same-blocks2 .ensures
-    ∙ blocks-same (a .n) (firstHalf (keyOf (a .keys .now))) (a .group .now) (k .before .before .copy .ensures) (k .copy2 .ensures) (p .encrypt .ensures .middletexts) (q .encrypt2 .ensures .middletexts)
+    ∙ blocks-same (a .n)
+    (engines-equal .forwards (a .n) _ _ _ _ _ _ _ (copies-agree (a .n) (a .group .now) (k .before .before .copy .ensures) (k .copy2 .ensures)) (p .encrypt .ensures) (q .encrypt2 .ensures) .0)
 
 returns-2 : tie.Need-returns-2
 returns-2 c =
@@ -43,7 +42,8 @@ returns-2 c =
     let k = p .before .before .before in
     let a = k .before .before .before .before .args in
     e .same-blocks .ensures
-    ∙ blocks-same (a .n) (encrypt (keyOf (a .keys .now))) (a .group .now) (k .before .before .copy .ensures) (k .copy2 .ensures) (p .encrypt .ensures .blocks) (q .encrypt2 .ensures .blocks)
+    ∙ blocks-same (a .n)
+    (engines-equal .forwards (a .n) _ _ _ _ _ _ _ (copies-agree (a .n) (a .group .now) (k .before .before .copy .ensures) (k .copy2 .ensures)) (p .encrypt .ensures) (q .encrypt2 .ensures) .1)
 
 pub enciphered-spec : {M : Type 1} → statement M
 enciphered-spec =

@@ -1,9 +1,8 @@
--- Both engines give what FIPS 197 says of each block.
+-- Whatever two engines give of the same blocks is the same.
 use borrow.Author.Needs.{needs}
 use mathlib.Core.Path.{_∙_}
-use Rattle.fips197.specs.Aes128.{invSecondHalf}
-use Rattle.cipher.specs.Keys.{keyOf}
-use Rattle.engines.proofs.Found.{blocks-same}
+use Rattle.engines.proofs.Engines.{engines-equal}
+use Rattle.engines.proofs.Found.{copies-agree, blocks-same}
 use Rattle.engines.proofs.middletexts.Statement.{statement}
 use Rattle.engines.proofs.middletexts.Tie as tie
 
@@ -29,7 +28,8 @@ returns c =
     let k = p .before .before in
     let a = k .before .before .before .before .args in
     c .same-blocks .ensures
-    ∙ blocks-same (a .n) (invSecondHalf (keyOf (a .keys .now))) (a .group .now) (k .before .before .copy .ensures) (k .copy2 .ensures) (p .middletexts .ensures) (q .middletexts2 .ensures)
+    ∙ blocks-same (a .n)
+    (engines-equal .middletexts (a .n) _ _ _ _ _ (copies-agree (a .n) (a .group .now) (k .before .before .copy .ensures) (k .copy2 .ensures)) (p .middletexts .ensures) (q .middletexts2 .ensures))
 
 pub middletexts-spec : {M : Type 1} → statement M
 middletexts-spec =

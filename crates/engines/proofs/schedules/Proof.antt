@@ -1,7 +1,7 @@
 -- Both engines give the schedule of the key.
 use borrow.Author.Needs.{needs}
-use mathlib.Core.Path.{sym, ap, _∙_}
-use Rattle.fips197.specs.KeyExpansion.{keyExpansion}
+use mathlib.Core.Path.{_∙_}
+use Rattle.engines.proofs.Engines.{engines-equal}
 use Rattle.engines.proofs.Found.{same-yes}
 use Rattle.engines.proofs.schedules.Statement.{statement}
 use Rattle.engines.proofs.schedules.Tie as tie
@@ -24,9 +24,7 @@ same-requires c κs = search needs
 returns : tie.Need-returns
 returns c =
     let q = c .before .before .before in
-    let e = q .before .expand .ensures in
-    let f = q .expand2 .ensures in
-    c .same .ensures ∙ same-yes _ _ (e .schedule .is ∙ ap (keyExpansion 4 10) (e .of ∙ sym (f .of)) ∙ sym (f .schedule .is))
+    c .same .ensures ∙ same-yes _ _ (engines-equal .schedules _ _ _ (q .before .expand .ensures) (q .expand2 .ensures))
 
 pub schedules-spec : {M : Type 1} → statement M
 schedules-spec =

@@ -5,10 +5,10 @@ use Rattle.aes_cases.proofs.fips.key_expansion.Statement.{statement}
 use Rattle.aes_cases.proofs.fips.key_expansion.Tie as tie
 
 abbrev Inv-loop : tie.InvT-loop
-Inv-loop words keys agreed₀ i₀ agreed i = (i ≤ 44) × (agreed ≤ i)
+Inv-loop engine words keys agreed₀ i₀ agreed i = (i ≤ 44) × (agreed ≤ i)
 
 abbrev μ-loop : tie.MeasureT-loop
-μ-loop words keys agreed₀ i₀ agreed i = 44 - i
+μ-loop engine words keys agreed₀ i₀ agreed i = 44 - i
 
 block-requires : tie.Need-block-requires Inv-loop μ-loop
 block-requires c κs = search needs

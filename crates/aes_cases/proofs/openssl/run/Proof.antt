@@ -5,10 +5,10 @@ use Rattle.aes_cases.proofs.openssl.run.Statement.{statement}
 use Rattle.aes_cases.proofs.openssl.run.Tie as tie
 
 abbrev Inv-loop : tie.InvT-loop
-Inv-loop text encrypted₀ decrypted₀ met₀ lines i₀ encrypted decrypted met i = (i ≤ lines) × (encrypted ≤ i) × (decrypted ≤ i) × (met ≤ i)
+Inv-loop engine text encrypted₀ decrypted₀ met₀ lines i₀ encrypted decrypted met i = (i ≤ lines) × (encrypted ≤ i) × (decrypted ≤ i) × (met ≤ i)
 
 abbrev μ-loop : tie.MeasureT-loop
-μ-loop text encrypted₀ decrypted₀ met₀ lines i₀ encrypted decrypted met i = lines - i
+μ-loop engine text encrypted₀ decrypted₀ met₀ lines i₀ encrypted decrypted met i = lines - i
 
 loop-holds : tie.Need-loop-holds Inv-loop μ-loop
 loop-holds c = search needs

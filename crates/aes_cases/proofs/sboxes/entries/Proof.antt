@@ -1,8 +1,8 @@
 -- At most one entry agrees at each turn.
 use borrow.Author.Needs.{needs}
 use Prim.Native.Nat.{_≤_, _-_}
-use Rattle.aes_cases.proofs.fips.entries.Statement.{statement}
-use Rattle.aes_cases.proofs.fips.entries.Tie as tie
+use Rattle.aes_cases.proofs.sboxes.entries.Statement.{statement}
+use Rattle.aes_cases.proofs.sboxes.entries.Tie as tie
 
 abbrev Inv-loop : tie.InvT-loop
 Inv-loop table at printed agreed₀ i₀ agreed i = (i ≤ 5) × (agreed ≤ i)

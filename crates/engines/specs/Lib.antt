@@ -1,0 +1,2 @@
+-- Engines: any two engines give the same.
+pub mod Engines
