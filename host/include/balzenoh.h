@@ -39,7 +39,8 @@
  *    refused (10, below), with all others it is taken like any key. Load a real key before the first
  *    list.
  *  - Timing. The cipher's tables are indexed by secret bytes, and a key of zeros takes longer. Nothing
- *    is promised of time or caches.
+ *    is promised of time or caches. An archive on the other engine, which has no table indexed by
+ *    data, is what host/engine builds; its answers are the same.
  *  - The stack. Keys, masks and plaintext that were on it are not wiped.
  *  - Left out: the paper's hash finish, headers, and keys of 192 or 256 bits.
  *

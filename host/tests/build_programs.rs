@@ -65,9 +65,12 @@ fn an_engine_is_chosen_in_a_copy_of_the_crates() {
     told(&output);
     // Standard output is the folder alone, and both archives are there.
     let folder = String::from_utf8(output.stdout).expect("a name");
-    assert!(Path::new(folder.trim_end()).join("libbalzenoh.a").exists() && Path::new(folder.trim_end()).join("libaes_blocks.a").exists());
+    for archive in ["libbalzenoh.a", "libaes_blocks.a"] {
+        assert!(Path::new(folder.trim_end()).join(archive).exists(), "{archive} is not in {folder}");
+    }
     // The constant is another one in the copy, and nothing else.
-    assert_eq!(read("top/target/engines/arithmetic/crates/cipher/src/lib.rt"), FACE.replace("ENGINE: u8 = TABLES", "ENGINE: u8 = ARITHMETIC"));
+    let copy = read("top/target/engines/arithmetic/crates/cipher/src/lib.rt");
+    assert_eq!(copy, FACE.replace("ENGINE: u8 = TABLES", "ENGINE: u8 = ARITHMETIC"));
     assert_eq!(read(face), FACE);
     assert!(told(&checkout.run("./engine", &["--help"])).contains("host/engine NAME"));
     for wrong in [&[][..], &["engine"], &["ARITHMETIC"], &[""], &["tables", "arithmetic"]] {

@@ -23,8 +23,9 @@ fn sources(path: &Path) -> Vec<PathBuf> {
 /// The code alone, line by line: no comments, and nothing of the contracts.
 fn code(path: &Path) -> Vec<String> {
     let text = fs::read_to_string(path).expect("a source");
+    let contract = |line: &&str| ["ghost use", "requires", "ensures"].iter().any(|start| line.starts_with(start));
     let lines = text.lines().map(|line| line.split("//").next().unwrap_or_default().trim());
-    lines.filter(|line| !["ghost use", "requires", "ensures"].iter().any(|start| line.starts_with(start))).map(str::to_string).collect()
+    lines.filter(|line| !contract(line)).map(str::to_string).collect()
 }
 
 fn lines_of(names: &[&str]) -> Vec<String> {

@@ -1,46 +1,47 @@
--- A product by the bits of one factor, from the top; and the powers of each byte of a block.
+-- A product by the bits of one factor; and the powers of each byte of a block.
 use mathlib.Core.Path.{_≡_, refl, sym, ap, ap₂, _∙_}
 use mathlib.Core.List.{List}
 use Prim.Native.Nat.{ℕ, suc, _+_, _-_, _*_, _/_, _%_, _^_, _≤_, _<_}
 use native.Mathlib.Omega.{arith}
-use lib.Bits.{bitXor, xor-comm}
+use lib.Bits.{bitXor, xor-zero-r}
 use lib.ListN.{getD}
 use lib.Pow.{shr-shr}
 use Rattle.blocks.specs.Bytes.{Block}
 use Rattle.blocks.specs.Field.{times, mul}
 use Rattle.blocks.specs.Tab.{tab}
-use Rattle.blocks.proofs.Field.{mul-one}
+use Rattle.blocks.proofs.Field.{mul-one, times-step}
 use Rattle.blocks.proofs.Tab.{getD-tab, tab-ext, tab-self}
+use Rattle.blocks.proofs.Xor.{xor-assoc}
 use Rattle.fips197.specs.Gf256.{xtimes, gmul, power}
 use Rattle.fips197.proofs.Gf256.{power-add}
 
 -- ---- a product
 
--- the bits of a from i up, times b
-abbrev pub above : ℕ → ℕ → ℕ → ℕ
-above a b i = times 7 0x1b (8 - i) (a / 2 ^ i) b
+-- what is there, and the bits of a from i up, times a multiple of b, make the product
+abbrev pub Multiplied : ℕ → ℕ → ℕ → ℕ → ℕ → Type 0
+Multiplied a b r m i = bitXor r (times 7 0x1b (8 - i) (a / 2 ^ i) m) ≡ gmul a b
 
-pub above-none : (a b : ℕ) → 0 ≡ above a b 8
-unfolding times
-above-none a b = refl
-
--- a turn: bit i - 1
-pub above-more : (a b r i : ℕ) → 0 < i → i ≤ 8 → r ≡ above a b i → bitXor (xtimes r) (a / 2 ^ (i - 1) % 2 * b) ≡ above a b (i - 1)
-unfolding times
-above-more a b r i l h e =
-    let k : 8 - (i - 1) ≡ suc (8 - i) = omega arith in
-    let j : i - 1 + 1 ≡ i = omega arith in
-    let d : a / 2 ^ (i - 1) / 2 ≡ a / 2 ^ i = shr-shr a (i - 1) 1 ∙ ap (λ (n : ℕ). a / 2 ^ n) j in
-    xor-comm (xtimes r) (a / 2 ^ (i - 1) % 2 * b)
-    ∙ ap (λ (t : ℕ). bitXor (a / 2 ^ (i - 1) % 2 * b) (xtimes t)) (e ∙ ap (λ (n : ℕ). times 7 0x1b (8 - i) n b) (sym d))
-    ∙ ap (λ (n : ℕ). times 7 0x1b n (a / 2 ^ (i - 1)) b) (sym k)
-
-pub above-all : (a b r i : ℕ) → i ≤ 0 → r ≡ above a b i → r ≡ gmul a b
+pub multiplied-none : (a b : ℕ) → Multiplied a b 0 b 0
 unfolding mul
-above-all a b r i h e =
-    let z : i ≡ 0 = omega arith in
-    let d : a / 1 ≡ a = omega arith in
-    e ∙ ap (above a b) z ∙ ap (λ (n : ℕ). times 7 0x1b 8 n b) d
+multiplied-none a b = let d : a / 1 ≡ a = omega arith in ap (λ (n : ℕ). times 7 0x1b 8 n b) d
+
+-- a turn: bit i
+pub multiplied-more : (a b r m i t m′ : ℕ) → i < 8 → Multiplied a b r m i → t ≡ a / 2 ^ i % 2 * m → m′ ≡ xtimes m → Multiplied a b (bitXor r t) m′ (i + 1)
+unfolding times
+multiplied-more a b r m i t m′ h e et em =
+    let k : 8 - i ≡ suc (8 - (i + 1)) = omega arith in
+    let n : ℕ = 8 - (i + 1) in
+    let here : ℕ = a / 2 ^ i % 2 * m in
+    ap₂ (λ (x y : ℕ). bitXor (bitXor r x) (times 7 0x1b n (a / 2 ^ (i + 1)) y)) et em
+    ∙ xor-assoc r here (times 7 0x1b n (a / 2 ^ (i + 1)) (xtimes m))
+    ∙ ap (λ (z : ℕ). bitXor r (bitXor here z)) (times-step 7 0x1b n (a / 2 ^ (i + 1)) m ∙ ap (λ (z : ℕ). xtimes (times 7 0x1b n z m)) (sym (shr-shr a i 1)))
+    ∙ ap (λ (z : ℕ). bitXor r (times 7 0x1b z (a / 2 ^ i) m)) (sym k) ∙ e
+
+pub multiplied-all : (a b r m i : ℕ) → 8 ≤ i → Multiplied a b r m i → r ≡ gmul a b
+unfolding times
+multiplied-all a b r m i h e =
+    let z : 8 - i ≡ 0 = omega arith in
+    sym (xor-zero-r r) ∙ ap (λ (n : ℕ). bitXor r (times 7 0x1b n (a / 2 ^ i) m)) (sym z) ∙ e
 
 -- ---- powers, in each byte
 

@@ -13,15 +13,17 @@ fn where_set(bit: u8, b: u8) -> u8
     bit * b
 }
 
-// The product of two bytes, by the bits of the first from the top: what there is, times x, and the second byte where the bit is set.
+// The product of two bytes: of b, b times x, b times x^2 and so on those for which the bit of a is set, added.
 fn product(a: u8, b: u8) -> u8
     ensures { λ r. ⌜ r ≡ gmul a b ⌝ }
 {
     let mut r: u8 = 0;
-    let mut i: u32 = 8;
-    while 0 < i {
-        i -= 1;
-        r = aes_steps::state::double(r) ^ where_set((a >> i) % 2, b);
+    let mut multiple = b;
+    let mut i: u32 = 0;
+    while i < 8 {
+        r = r ^ where_set((a >> i) % 2, multiple);
+        multiple = aes_steps::state::double(multiple);
+        i += 1;
     }
     r
 }

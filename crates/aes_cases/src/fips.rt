@@ -107,7 +107,17 @@ pub fn appendix_c(engine: u8) -> usize {
 pub fn appendix_c_middle(engine: u8) -> usize {
     let key = block(b"000102030405060708090a0b0c0d0e0f");
     let middle = block(b"c81677bc9b7ac93b25027992b0261996");
-    let forwards = first_half_gives(engine, key, block(b"00112233445566778899aabbccddeeff"), middle);
-    let backwards = inv_second_half_gives(engine, key, block(b"69c4e0d86a7b0430d8cdb78070b4c55a"), middle);
+    let forwards = first_half_gives(
+        engine,
+        key,
+        block(b"00112233445566778899aabbccddeeff"),
+        middle,
+    );
+    let backwards = inv_second_half_gives(
+        engine,
+        key,
+        block(b"69c4e0d86a7b0430d8cdb78070b4c55a"),
+        middle,
+    );
     forwards + backwards
 }

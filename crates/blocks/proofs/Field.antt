@@ -89,7 +89,7 @@ module _ (k p : ℕ) where
   bit-step (suc zero) x h = one-mul (step k p x) ∙ ap (step k p) (sym (one-mul x))
   bit-step (suc (suc b)) x h = absurd (omega arith)
 
-  times-step : (n a b : ℕ) → times k p n a (step k p b) ≡ step k p (times k p n a b)
+  pub times-step : (n a b : ℕ) → times k p n a (step k p b) ≡ step k p (times k p n a b)
   unfolding times
   times-step zero a b = sym (at-zero (step k p) step-linear)
   times-step (suc n) a b =

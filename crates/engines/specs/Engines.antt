@@ -14,14 +14,11 @@ pub record Agree (n : ℕ) (one other : List ℕ) : Type 0 where
 
 pub record EnginesEqual : Type 0 where
   pub schedules : (key one other : List ℕ) → Expands key one → Expands key other → one ≡ other
-
   -- the first half, and both halves
   pub forwards : (n : ℕ) (key old old′ new new′ middle middle′ : List ℕ) → Agree n old old′ → Enciphered n key old new middle
       → Enciphered n key old′ new′ middle′ → Agree n middle middle′ × Agree n new new′
-
   -- the second half undone, and both halves undone
   pub backwards : (n : ℕ) (key old old′ new new′ middle middle′ : List ℕ) → Agree n old old′ → Deciphered n key old new middle
       → Deciphered n key old′ new′ middle′ → Agree n middle middle′ × Agree n new new′
-
   -- the second half undone alone
   pub middletexts : (n : ℕ) (key old old′ new new′ : List ℕ) → Agree n old old′ → Middletexts n key old new → Middletexts n key old′ new′ → Agree n new new′
