@@ -74,7 +74,7 @@
  *  - Its size, and the stack that each call was seen to use, from its caller's frame down, as
  *    host/stack/run printed them, in bytes:
  *
- *      code      15916
+ *      code      15913
  *      constants  1152
  *      variables     0
  *

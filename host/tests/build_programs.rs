@@ -105,6 +105,10 @@ fn the_library_takes_what_the_pages_say() {
     if !present("gcc") || !present("nm") || !present("size") {
         return;
     }
+    // An archive that was given may be on another engine than the pages speak of.
+    if option_env!("BALZENOH_LIB_DIR").is_some() {
+        return println!("the archives were given: their sizes are not held to the pages");
+    }
     let printed = told(&run(&Checkout::new("stack"), "stack/run", &[]));
     for page in ["include/balzenoh.h", "../README.md"] {
         let text = fs::read_to_string(Path::new(HOST).join(page)).expect("a page");

@@ -1,16 +1,18 @@
--- A product by the bits of one factor; and the powers of each byte of a block.
+-- A product and a square by the bits of a factor; and the powers of each byte of a block.
 use mathlib.Core.Path.{_≡_, refl, sym, ap, ap₂, _∙_}
 use mathlib.Core.List.{List}
-use Prim.Native.Nat.{ℕ, suc, _+_, _-_, _*_, _/_, _%_, _^_, _≤_, _<_}
+use Prim.Native.Nat.{ℕ, zero, suc, _+_, _-_, _*_, _/_, _%_, _^_, _≤_, _<_}
+use native.Mathlib.Numerals.{add-one}
 use native.Mathlib.Omega.{arith}
 use lib.Bits.{bitXor, xor-zero-r}
 use lib.ListN.{getD}
 use lib.Pow.{shr-shr}
 use Rattle.blocks.specs.Bytes.{Block}
-use Rattle.blocks.specs.Field.{times, mul}
+use Rattle.blocks.specs.Field.{step, steps, times, mul}
 use Rattle.blocks.specs.Tab.{tab}
 use Rattle.blocks.proofs.Field.{mul-one, times-step}
 use Rattle.blocks.proofs.Tab.{getD-tab, tab-ext, tab-self}
+use Rattle.blocks.proofs.Test.{equal-below}
 use Rattle.blocks.proofs.Xor.{xor-assoc}
 use Rattle.fips197.specs.Gf256.{xtimes, gmul, power}
 use Rattle.fips197.proofs.Gf256.{power-add}
@@ -42,6 +44,38 @@ unfolding times
 multiplied-all a b r m i h e =
     let z : 8 - i ≡ 0 = omega arith in
     sym (xor-zero-r r) ∙ ap (λ (n : ℕ). bitXor r (times 7 0x1b n (a / 2 ^ i) m)) (sym z) ∙ e
+
+-- ---- a square
+
+-- the bits of a below i, each at twice its place: the square of a₀ + a₁ x + .. is a₀ + a₁ x² + ..
+unfoldable pub squared : ℕ → ℕ → ℕ
+squared a zero = 0
+squared a (suc i) = bitXor (squared a i) (a / 2 ^ i % 2 * steps 7 0x1b (i + i) 1)
+
+pub record Squared (a r even i : ℕ) : Type 0 where
+  pub bits : r ≡ squared a i
+  pub power : even ≡ steps 7 0x1b (i + i) 1
+
+pub squared-none : (a : ℕ) → Squared a 0 1 0
+unfolding squared steps
+squared-none a = record { bits = refl; power = refl }
+
+-- a turn: bit i
+pub squared-more : (a r even i t d d′ : ℕ) → Squared a r even i → t ≡ a / 2 ^ i % 2 * even → d ≡ xtimes even → d′ ≡ xtimes d → Squared a (bitXor r t) d′ (i + 1)
+unfolding squared steps
+squared-more a r even i t d d′ s et ed ed′ =
+    let k : i + 1 + (i + 1) ≡ suc (suc (i + i)) = omega arith in
+    record {
+      bits = ap₂ bitXor (s .bits) (et ∙ ap (λ (z : ℕ). a / 2 ^ i % 2 * z) (s .power)) ∙ ap (squared a) (sym (add-one i));
+      power = ed′ ∙ ap xtimes (ed ∙ ap xtimes (s .power)) ∙ ap (λ (n : ℕ). steps 7 0x1b n 1) (sym k);
+    }
+
+squared-test : (a : ℕ) → a < 256 → squared a 8 ≡ gmul a a
+unfolding squared steps step times mul
+squared-test = equal-below 256 (λ a. squared a 8) (λ a. gmul a a) tt
+
+pub squared-all : (a r even i : ℕ) → a < 256 → i ≤ 8 → 8 ≤ i → Squared a r even i → r ≡ gmul a a
+squared-all a r even i l h g s = let e : i ≡ 8 = omega arith in s .bits ∙ ap (squared a) e ∙ squared-test a l
 
 -- ---- powers, in each byte
 

@@ -28,6 +28,21 @@ fn product(a: u8, b: u8) -> u8
     r
 }
 
+// The square of a byte: of 1, x^2, x^4 and so on those for which the bit is set, added.
+fn square(a: u8) -> u8
+    ensures { λ r. ⌜ r ≡ gmul a a ⌝ }
+{
+    let mut r: u8 = 0;
+    let mut even: u8 = 1;
+    let mut i: u32 = 0;
+    while i < 8 {
+        r = r ^ where_set((a >> i) % 2, even);
+        even = aes_steps::state::double(aes_steps::state::double(even));
+        i += 1;
+    }
+    r
+}
+
 // The product at each byte.
 fn products(a: [u8; 16], b: [u8; 16]) -> [u8; 16]
     ensures { λ r. ⌜ r ≡ tab 16 (λ i. gmul (getD a i 0) (getD b i 0)) ⌝ }
@@ -39,19 +54,30 @@ fn products(a: [u8; 16], b: [u8; 16]) -> [u8; 16]
     r
 }
 
-// The inverse at each byte: the power 254, by eleven products.
+// The square at each byte.
+fn squares(a: [u8; 16]) -> [u8; 16]
+    ensures { λ r. ⌜ r ≡ tab 16 (λ i. gmul (getD a i 0) (getD a i 0)) ⌝ }
+{
+    let mut r = [0u8; 16];
+    for i in 0..16 {
+        r[i] = square(a[i]);
+    }
+    r
+}
+
+// The inverse at each byte: the power 254, by seven squares and four products.
 pub(crate) fn inverses(s: [u8; 16]) -> [u8; 16]
     ensures { λ r. ⌜ r ≡ tab 16 (λ i. inverse (getD s i 0)) ⌝ }
 {
-    let s2 = products(s, s);
+    let s2 = squares(s);
     let s3 = products(s2, s);
-    let s6 = products(s3, s3);
-    let s12 = products(s6, s6);
+    let s6 = squares(s3);
+    let s12 = squares(s6);
     let s15 = products(s12, s3);
-    let s30 = products(s15, s15);
-    let s60 = products(s30, s30);
-    let s120 = products(s60, s60);
-    let s240 = products(s120, s120);
+    let s30 = squares(s15);
+    let s60 = squares(s30);
+    let s120 = squares(s60);
+    let s240 = squares(s120);
     let s252 = products(s240, s12);
     products(s252, s2)
 }
