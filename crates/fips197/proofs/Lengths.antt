@@ -1,10 +1,9 @@
--- Lengths alone, whatever the bytes are: under a key of 16, each half takes 16 to 16.
+-- Lengths alone, whatever the bytes are: under a key of 16 or 32, each half takes 16 to 16.
 use mathlib.Core.Path.{_≡_, refl, sym, _∙_}
 use mathlib.Core.List.{List, [], _∷_}
-use Prim.Native.Nat.{ℕ, zero, suc, _+_, _*_, _≤_, _<_}
+use Prim.Native.Nat.{ℕ, zero, suc, _+_, _-_, _*_, _/_, _≤_, _<_}
 use native.Mathlib.Nat.{suc-mul, not-suc-le-zero, le-of-suc-le-suc}
 use native.Mathlib.Omega.{arith}
-use lib.Dec.{lit<}
 use lib.ListN.{length, getD, take, drop, length-take, length-drop}
 use lib.Seq.{slice}
 use Rattle.blocks.specs.Bytes.{xorBytes, firstBlocks}
@@ -14,7 +13,7 @@ use Rattle.fips197.specs.State.{subBytes, invSubBytes, shiftRows, mixCol
 use Rattle.fips197.specs.KeyExpansion.{words, keyExpansion, roundKeys}
 use Rattle.fips197.specs.Cipher.{round, lastRound, invRound, invLastRound, rounds, invRounds}
 use Rattle.fips197.specs.Cipher as C
-use Rattle.fips197.specs.Aes128.{keys, firstHalf, secondHalf, invFirstHalf, invSecondHalf}
+use Rattle.fips197.specs.Aes.{KeyLength, short, long, nkOf, nrOf, keys, firstHalf, secondHalf, invFirstHalf, invSecondHalf}
 use Rattle.fips197.proofs.KeyExpansion.{length-words}
 
 -- every element has 16
@@ -47,9 +46,9 @@ long-firstBlocks (suc n) a l =
     let e : suc n * 16 ≡ n * 16 + 16 = suc-mul n 16 in
     (length-take 16 a ∙ omega arith, long-firstBlocks n (drop 16 a) (rw length-drop (omega arith)))
 
--- a schedule of AES-128 has eleven round keys
-pub eleven : (w : List ℕ) → 10 < length (firstBlocks 11 w)
-eleven w = rw (length-blocks 11 w) (lit< tt)
+-- one round key more than there are rounds
+pub enough : (nr : ℕ) (w : List ℕ) → nr < length (firstBlocks (nr + 1) w)
+enough nr w = rw (length-blocks (nr + 1) w) (omega arith)
 
 -- ---- rounds
 
@@ -89,29 +88,36 @@ pub length-invSecondHalf : (h nr : ℕ) (ks : List (List ℕ)) (s : List ℕ) �
 unfolding C.invSecondHalf invLastRound invSubBytes
 length-invSecondHalf h nr ks s = length-invRounds (slice (suc h) nr ks) (invLastRound s (getD ks nr [])) refl
 
--- ---- those of AES-128
+-- ---- those of AES, under a key of 16 or 32 bytes
 
-pub eleven-keys : (key : List ℕ) → 10 < length (keys key)
+-- a key has whole words
+pub whole-words : (key : List ℕ) → KeyLength key → length key ≡ nkOf key * 4
+whole-words key (short e) = rw e refl
+whole-words key (long e) = rw e refl
+
+pub enough-keys : (key : List ℕ) → nrOf key < length (keys key)
 unfolding keys roundKeys
-eleven-keys key = eleven (keyExpansion 4 10 key)
+enough-keys key = enough (nrOf key) (keyExpansion (nkOf key) (nrOf key) key)
 
-module _ (key : List ℕ) (hk : length key ≡ 16) where
+module _ (key : List ℕ) (hk : KeyLength key) where
   long-keys : AllLong (keys key)
   unfolding keys roundKeys keyExpansion
-  long-keys = long-firstBlocks 11 (words 4 key 40) (omega (arith, length-words 4 key 40 hk))
+  long-keys =
+      let more = 4 * (nrOf key + 1) - nkOf key in
+      long-firstBlocks (nrOf key + 1) (words (nkOf key) key more) (omega (arith, length-words (nkOf key) key more (whole-words key hk)))
 
   pub length-first : (s : List ℕ) → length s ≡ 16 → length (firstHalf key s) ≡ 16
   unfolding firstHalf
-  length-first = length-firstHalf 5 10 (keys key) long-keys (eleven-keys key)
+  length-first = length-firstHalf (nrOf key / 2) (nrOf key) (keys key) long-keys (enough-keys key)
 
   pub length-second : (s : List ℕ) → length s ≡ 16 → length (secondHalf key s) ≡ 16
   unfolding secondHalf
-  length-second s e = length-secondHalf 5 10 (keys key) long-keys (eleven-keys key) s
+  length-second s e = length-secondHalf (nrOf key / 2) (nrOf key) (keys key) long-keys (enough-keys key) s
 
   pub length-invFirst : (s : List ℕ) → length s ≡ 16 → length (invFirstHalf key s) ≡ 16
   unfolding invFirstHalf
-  length-invFirst = length-invFirstHalf 5 10 (keys key) long-keys (eleven-keys key)
+  length-invFirst = length-invFirstHalf (nrOf key / 2) (nrOf key) (keys key) long-keys (enough-keys key)
 
   pub length-invSecond : (s : List ℕ) → length s ≡ 16 → length (invSecondHalf key s) ≡ 16
   unfolding invSecondHalf
-  length-invSecond s e = length-invSecondHalf 5 10 (keys key) s
+  length-invSecond s e = length-invSecondHalf (nrOf key / 2) (nrOf key) (keys key) s

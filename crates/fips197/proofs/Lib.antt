@@ -1,4 +1,4 @@
--- The laws of these definitions. A mode needs Aes128 and Lengths alone. Gf256: the field. SboxTables: the S-box's tables by their rule. Mix: columns.
+-- The laws of these definitions. A mode needs Aes and Lengths alone. Gf256: the field. SboxTables: the S-box's tables by their rule. Mix: columns.
 -- Steps: each step is undone by its inverse. Rounds: the halves, of any number of rounds. KeyExpansion: the schedule. Lengths:
 -- lengths alone.
 pub mod Gf256
@@ -8,4 +8,4 @@ pub mod Steps
 pub mod Rounds
 pub mod KeyExpansion
 pub mod Lengths
-pub mod Aes128
+pub mod Aes

@@ -1,5 +1,5 @@
--- AES-128 (FIPS 197) as the mode's cipher.
-use Rattle.fips197.specs.Aes128.{firstHalf, secondHalf, invFirstHalf, invSecondHalf}
+-- AES (FIPS 197), by the length of its key, as the mode's cipher.
+use Rattle.fips197.specs.Aes.{firstHalf, secondHalf, invFirstHalf, invSecondHalf}
 use Rattle.mode.specs.Mode.{Cipher}
 
 abbrev pub aes : Cipher

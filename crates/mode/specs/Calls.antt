@@ -8,7 +8,7 @@ use lib.IntN.{ℤ}
 use Rattle.blocks.specs.Bytes.{xorBytes, same, zeros}
 use Rattle.gf128.specs.Gf128.{timesX, jump, jumpBy}
 use Rattle.mode.specs.Mode.{Cipher, Source, plaintext, ciphertext, Pass, Form, RunRecord, inWords, blocksOf, padded, zeroBlock, startMask, middletext, pass, tagFrom, unbrokenTag, sealedRecord, ivPart, cipherPart, tagPart}
-use Rattle.mode.specs.Table.{Answer, refused, given, decide, not16, unaligned, tooLong, notSealed, beyond, anyBeyond, tooFar, apart, none, notWhole, zeroMask, tooShort}
+use Rattle.mode.specs.Table.{Answer, refused, given, decide, notKey, not16, unaligned, tooLong, notSealed, beyond, anyBeyond, tooFar, apart, none, notWhole, zeroMask, tooShort}
 -- the code's answers, as it declares them
 pub use Rattle.mode.specs.declared.Written.{Written}
 pub use Rattle.mode.specs.declared.RunAnswer.{RunAnswer}
@@ -43,7 +43,7 @@ unalignedRun last bytes = false
 module _ (c : Cipher) where
   abbrev pub sealRunRows : List ℕ → List ℕ → ℕ → Kind → List ℕ → ℕ → List (ℕ × Bool)
   sealRunRows key iv first kind bytes room =
-      (1, not16 key)
+      (1, notKey key)
       ∷ (2, not16 iv)
       ∷ (3, unalignedRun kind bytes)
       ∷ (4, beyond first (length (blocksOfRun kind bytes)))
@@ -53,7 +53,7 @@ module _ (c : Cipher) where
 
   abbrev pub checkRunRows : List ℕ → List ℕ → ℕ → List ℕ → List (ℕ × Bool)
   checkRunRows key iv first bytes =
-      (1, not16 key)
+      (1, notKey key)
       ∷ (2, not16 iv)
       ∷ (3, unaligned bytes)
       ∷ (4, beyond first (length (blocksOf bytes)))
@@ -117,7 +117,7 @@ module _ (f : Form) where
   module _ (c : Cipher) where
     abbrev pub closeRows : List ℕ → List ℕ → f .Record → List (ℕ × Bool)
     closeRows key iv r =
-        (1, not16 key)
+        (1, notKey key)
         ∷ (2, not16 iv)
         ∷ (4, beyond (f .first r) (f .count r))
         ∷ (9, notWhole f r)
@@ -135,7 +135,7 @@ module _ (f : Form) where
     -- TEST a tag against a record: it passes if closing gives that tag
     abbrev pub testRows : List ℕ → List ℕ → f .Record → List ℕ → List (ℕ × Bool)
     testRows key iv r tag =
-        (1, not16 key)
+        (1, notKey key)
         ∷ (2, not16 iv)
         ∷ (3, not16 tag)
         ∷ (4, beyond (f .first r) (f .count r))
@@ -173,7 +173,7 @@ orEmpty (some message) = message
 module _ (c : Cipher) where
   abbrev pub sealRows : List ℕ → List ℕ → List ℕ → ℕ → List (ℕ × Bool)
   sealRows key iv message room =
-      (1, not16 key)
+      (1, notKey key)
       ∷ (2, not16 iv)
       ∷ (3, tooLong message)
       ∷ (10, zeroMask c key iv)
@@ -195,7 +195,7 @@ module _ (c : Cipher) where
 
   unfoldable pub openRows : List ℕ → List ℕ → ℕ → List (ℕ × Bool)
   openRows key sealed room =
-      (1, not16 key)
+      (1, notKey key)
       ∷ (3, notSealed sealed)
       ∷ (10, zeroMask c key (ivPart sealed))
       ∷ (5, tooShort room (length (cipherPart sealed)))

@@ -1,5 +1,5 @@
 -- THE DEMANDS, as types, on one page. A reader who believes Mode, Table, Calls and Parallel reads this one. `c` is any cipher in two halves,
--- and `m` any set of calls. proofs/Demands.antt has the proof of each for AES-128 and our calls; proofs/Refuted.antt has wrong calls, of
+-- and `m` any set of calls. proofs/Demands.antt has the proof of each for AES, with keys of 16 and 32 bytes, and our calls; proofs/Refuted.antt has wrong calls, of
 -- which demand 3 does not hold.
 -- All is said of the outcome functions of Calls: the contract of each call says that its answer and its whole lent output are what its
 -- outcome function gives. What lay in the output before is no argument of an outcome function, so it shows in nothing.
@@ -11,27 +11,45 @@ use Prim.Native.Nat.{ℕ, suc, _+_, _*_, _-_, _/_, _%_, _≤_, _<_}
 use lib.ListN.{length, take, drop}
 use lib.IntN.{ℤ, pos, negsuc, negℤ, natAbs, _+ℤ_}
 use lib.Dec.{eqb}
-use Rattle.blocks.specs.Bytes.{Bytes, Block, zeros, xorBytes}
+use Rattle.blocks.specs.Bytes.{Bytes, Block, zeros, xorBytes, same}
 use Rattle.blocks.specs.declared.words.Words.{Words}
 use Rattle.blocks.specs.Words.{Proper, bytesOf, wordsOf}
 use Rattle.gf128.specs.Gf128.{jump, overX, jumpBy}
 use Rattle.fips197.specs.KeyExpansion.{roundKeys}
+use Rattle.fips197.specs.Aes.{KeyLength, Key}
 use Rattle.fips197.specs.Cipher.{cipher, invCipher, afterRound}
-use Rattle.mode.specs.Mode.{Cipher, Source, plaintext, ciphertext, Pass, Form, RunRecord, inWords, ByteRecord, inBytes, blocksOf, padded, zeroBlock, startMask, encrypt, pass, tagFrom, unbroken, unbrokenTag, recordOf, ivPart, cipherPart, tagPart, sealedRecord, UnbrokenCheck}
+use Rattle.mode.specs.Mode.{Cipher, Source, plaintext, ciphertext, Pass, Form, RunRecord, inWords, ByteRecord, inBytes, blocksOf, padded, zeroBlock, keyBlock, startMask, encrypt, pass, tagFrom, unbroken, unbrokenTag, recordOf, ivPart, cipherPart, tagPart, sealedRecord, UnbrokenCheck}
 use Rattle.mode.specs.Table.{Answer, refused, given, decide, tableOrder, inOrder, NoneHolds, Decides, apart, notSealed, notWhole, zeroMask, limit, longestMessage}
 use Rattle.mode.specs.Calls.{Outcome, outcomeBy, Kind, blocksOfRun, unalignedRun, seal, sealRows, openSealed, openRows, unpadded, orEmpty, plaintextOf, passFrom, runRecord, sealRun, sealRunRows, checkRun, checkRunRows, joinTwo, joinTwoRows, joinList, joinListRows, joinedAll, closingTag, close, closeRows, test, testRows, jumpMask, jumpRows, Calls, callsOf}
 use Rattle.mode.specs.Parallel.{Work, sealing, checking, sourceOf, ivOf, allBlocks, Setting, WellFormed, Run, Segment, recorded, recordIn, bytesIn, isRecorded, blocksIn, segment, Call, runAt, joinPair, joinMany, consecutive, recordsAt, Allowed, start, roomOf, runOutcome, answerOf, afterAll, EachCall}
 
--- ---- THE CIPHER is FIPS 197's AES-128: keys of 4 words, 10 rounds
+-- ---- THE CIPHER is FIPS 197's: AES-128 under a key of 16 bytes, AES-256 under one of 32
 
-pub record IsAes128 (c : Cipher) : Type 0 where
+-- under this key, of nk words, FIPS 197's cipher of nr rounds, of which h make the first half
+pub record IsAes (c : Cipher) (key : List ℕ) (nk nr h : ℕ) : Type 0 where
   -- steps 1 and 3 encrypt by FIPS 197's Cipher; in step 2 the halves, one after the other, are that Cipher
-  pub encrypts : (key block : List ℕ) → encrypt c key block ≡ cipher 10 (roundKeys 4 10 key) block
-  pub halves : (key block : List ℕ) → c .secondHalf key (c .firstHalf key block) ≡ cipher 10 (roundKeys 4 10 key) block
+  pub encrypts : (block : List ℕ) → encrypt c key block ≡ cipher nr (roundKeys nk nr key) block
+  pub halves : (block : List ℕ) → c .secondHalf key (c .firstHalf key block) ≡ cipher nr (roundKeys nk nr key) block
   -- the halves backwards, one after the other, are InvCipher
-  pub decrypts : (key block : List ℕ) → c .firstHalfBack key (c .secondHalfBack key block) ≡ invCipher 10 (roundKeys 4 10 key) block
-  -- the middletext is the state after round 5
-  pub middle : (key block : List ℕ) → c .firstHalf key block ≡ afterRound (roundKeys 4 10 key) block 5
+  pub decrypts : (block : List ℕ) → c .firstHalfBack key (c .secondHalfBack key block) ≡ invCipher nr (roundKeys nk nr key) block
+  -- the middletext is the state after round h
+  pub middle : (block : List ℕ) → c .firstHalf key block ≡ afterRound (roundKeys nk nr key) block h
+
+pub record Aes128And256 (c : Cipher) : Type 0 where
+  pub of-16 : (key : List ℕ) → length key ≡ 16 → IsAes c key 4 10 5
+  pub of-32 : (key : List ℕ) → length key ≡ 32 → IsAes c key 8 14 7
+
+-- ---- THE KEY IN STEP 1 (ticket P8): a key of 16 bytes is added and replaces a zero sum as it is, and one of 32 bytes does so by its first 16
+
+-- step 1 with `added` where document 01 adds the key to a block or uses it as a mask
+abbrev pub startMaskBy : Cipher → List ℕ → List ℕ → List ℕ → List ℕ
+startMaskBy c key added iv =
+    let sum = xorBytes (encrypt c key (xorBytes iv added)) added in
+    cond (same sum zeroBlock) added sum
+
+pub record KeyInStepOne (c : Cipher) : Type 0 where
+  pub of-16 : (key iv : List ℕ) → length key ≡ 16 → startMask c key iv ≡ startMaskBy c key key iv
+  pub of-32 : (a b iv : List ℕ) → length a ≡ 16 → length b ≡ 16 → startMask c (a ++ b) iv ≡ startMaskBy c (a ++ b) a iv
 
 -- ---- what a call that writes comes to: every field of its outcome
 
@@ -77,14 +95,14 @@ abbrev pub NonzeroMask : Cipher → List ℕ → List ℕ → Type 0
 NonzeroMask c key iv = zeroMask c key iv ≡ false
 
 -- ---- DEMAND 2 (a). Sealing gives the record of the published mode, 16 j + 32 bytes for j blocks, and zeros beyond it; a message within the
--- limit, with a key and an IV of 16 bytes, a start mask that is not zero and with room, is sealed.
+-- limit, with a key of 16 or 32 bytes, an IV of 16, a start mask that is not zero and with room, is sealed.
 
 pub record Demand2a (c : Cipher) : Type 0 where
   pub gives : (key iv message r : List ℕ) (room : ℕ) → (seal c key iv message room) .answer ≡ given r
       → (r ≡ sealedRecord c key iv message) × Gives (seal c key iv message room) r r room
-  pub seals : (key iv message : List ℕ) (room : ℕ) → NonzeroMask c key iv → length key ≡ 16 → length iv ≡ 16 → length message ≤ longestMessage
+  pub seals : (key iv message : List ℕ) (room : ℕ) → NonzeroMask c key iv → KeyLength key → length iv ≡ 16 → length message ≤ longestMessage
       → length (sealedRecord c key iv message) ≤ room → Gives (seal c key iv message room) (sealedRecord c key iv message) (sealedRecord c key iv message) room
-  pub long : (key iv message : List ℕ) → length key ≡ 16 → length iv ≡ 16
+  pub long : (key iv message : List ℕ) → KeyLength key → length iv ≡ 16
       → length (sealedRecord c key iv message) ≡ 16 * (length message / 16 + 1) + 32
 
 -- ---- DEMAND 2 (b). Opening gives the message m, its length, and m followed by zeros, exactly where m was sealed to that very record. It gives
@@ -98,9 +116,9 @@ pub record SealedFrom (c : Cipher) (key sealed m : List ℕ) : Type 0 where
   pub seals : (seal c key iv m (length sealed)) .answer ≡ given sealed
 
 pub record Demand2b (c : Cipher) : Type 0 where
-  pub only-sealed : (key sealed m : List ℕ) (room : ℕ) → Block key → Bytes sealed → (openSealed c key sealed room) .answer ≡ given m
+  pub only-sealed : (key sealed m : List ℕ) (room : ℕ) → Key key → Bytes sealed → (openSealed c key sealed room) .answer ≡ given m
       → SealedFrom c key sealed m × Gives (openSealed c key sealed room) m m room
-  pub all-sealed : (key sealed m : List ℕ) (room : ℕ) → Block key → length (cipherPart sealed) ≤ room → SealedFrom c key sealed m
+  pub all-sealed : (key sealed m : List ℕ) (room : ℕ) → Key key → length (cipherPart sealed) ≤ room → SealedFrom c key sealed m
       → Gives (openSealed c key sealed room) m m room
 
 -- ---- DEMAND 2 (c). The refusals are the table's: the rows of each call stand in its order, a number is returned exactly where its row holds
@@ -162,7 +180,7 @@ module _ (c : Cipher) where
 
 abbrev pub Demand2d : Cipher → Type 0
 Demand2d c =
-    (key sealed : List ℕ) → NonzeroMask c key (ivPart sealed) → length key ≡ 16 → notSealed sealed ≡ false
+    (key sealed : List ℕ) → NonzeroMask c key (ivPart sealed) → KeyLength key → notSealed sealed ≡ false
     → UnbrokenCheck c key sealed
     ↔ (((m : List ℕ) × ((openSealed c key sealed (length (cipherPart sealed))) .answer ≡ given m))
     ⊎ ((openSealed c key sealed (length (cipherPart sealed))) .answer ≡ refused 7))
@@ -244,7 +262,7 @@ module _ (c : Cipher) (m : Calls) where
 -- what sealing gave is opened again, by whoever lends as much output as there is ciphertext
 abbrev pub OpensSealed : Cipher → Type 0
 OpensSealed c =
-    (key iv message r : List ℕ) (room lent : ℕ) → Block key → Block iv → Bytes message → (seal c key iv message room) .answer ≡ given r
+    (key iv message r : List ℕ) (room lent : ℕ) → Key key → Block iv → Bytes message → (seal c key iv message room) .answer ≡ given r
     → length r - 32 ≤ lent → Gives (openSealed c key r lent) message message lent
 
 -- ---- beside demand 2: RECORDS IN WORDS (ticket P12)
@@ -296,29 +314,30 @@ pub record WordsAsBytes (c : Cipher) : Type 0 where
 
 -- ---- beside demand 2: A ZERO START MASK (ticket P3)
 
--- the zero block through the cipher run backwards, under the zero key
-abbrev pub zeroMaskIv : Cipher → List ℕ
-zeroMaskIv c = c .firstHalfBack zeroBlock (c .secondHalfBack zeroBlock zeroBlock)
+-- the zero block through the cipher run backwards
+abbrev pub zeroMaskIv : Cipher → List ℕ → List ℕ
+zeroMaskIv c key = c .firstHalfBack key (c .secondHalfBack key zeroBlock)
 
 pub record ZeroMask (c : Cipher) : Type 0 where
-  -- the start mask is still zero exactly where the key is zero and the encryption of the IV under it is zero
-  pub exactly : (key iv : List ℕ) → length key ≡ 16 → length iv ≡ 16 → (zeroMask c key iv ≡ true) ↔ ((key ≡ zeroBlock) × (encrypt c key iv ≡ zeroBlock))
-  -- under the zero key there is such an IV, and no other
-  pub one-iv : Block (zeroMaskIv c) × (zeroMask c zeroBlock (zeroMaskIv c) ≡ true)
-  pub no-other : (iv : List ℕ) → Block iv → zeroMask c zeroBlock iv ≡ true → iv ≡ zeroMaskIv c
+  -- the start mask is still zero exactly where the key's first 16 bytes are zero and the encryption of the IV under the whole key is zero
+  pub exactly : (key iv : List ℕ) → KeyLength key → length iv ≡ 16
+      → (zeroMask c key iv ≡ true) ↔ ((keyBlock key ≡ zeroBlock) × (encrypt c key iv ≡ zeroBlock))
+  -- under each such key there is such an IV, and no other
+  pub one-iv : (key : List ℕ) → Key key → keyBlock key ≡ zeroBlock → Block (zeroMaskIv c key) × (zeroMask c key (zeroMaskIv c key) ≡ true)
+  pub no-other : (key iv : List ℕ) → Key key → Block iv → zeroMask c key iv ≡ true → iv ≡ zeroMaskIv c key
   -- every call that has a key and an IV refuses such a pair with 10, an empty run too, where no row above 10 holds; whatever is lent, and
   -- whatever the tag
-  pub of-seal : (key iv message : List ℕ) (room : ℕ) → zeroMask c key iv ≡ true → length key ≡ 16 → length iv ≡ 16 → length message ≤ longestMessage
+  pub of-seal : (key iv message : List ℕ) (room : ℕ) → zeroMask c key iv ≡ true → KeyLength key → length iv ≡ 16 → length message ≤ longestMessage
       → Refuses (seal c key iv message room) 10 room
-  pub of-open : (key sealed : List ℕ) (room : ℕ) → zeroMask c key (ivPart sealed) ≡ true → length key ≡ 16 → notSealed sealed ≡ false
+  pub of-open : (key sealed : List ℕ) (room : ℕ) → zeroMask c key (ivPart sealed) ≡ true → KeyLength key → notSealed sealed ≡ false
       → Refuses (openSealed c key sealed room) 10 room
-  pub of-seal-run : (key iv : List ℕ) (first : ℕ) (kind : Kind) (bytes : List ℕ) (room : ℕ) → zeroMask c key iv ≡ true → length key ≡ 16 → length iv ≡ 16
+  pub of-seal-run : (key iv : List ℕ) (first : ℕ) (kind : Kind) (bytes : List ℕ) (room : ℕ) → zeroMask c key iv ≡ true → KeyLength key → length iv ≡ 16
       → unalignedRun kind bytes ≡ false → first + length (blocksOfRun kind bytes) ≤ limit → Refuses (sealRun inWords c key iv first kind bytes room) 10 room
-  pub of-check-run : (key iv : List ℕ) (first : ℕ) (bytes : List ℕ) → zeroMask c key iv ≡ true → length key ≡ 16 → length iv ≡ 16 → length bytes % 16 ≡ 0
+  pub of-check-run : (key iv : List ℕ) (first : ℕ) (bytes : List ℕ) → zeroMask c key iv ≡ true → KeyLength key → length iv ≡ 16 → length bytes % 16 ≡ 0
       → first + length (blocksOf bytes) ≤ limit → checkRun inWords c key iv first bytes ≡ refused 10
-  pub of-close : (key iv : List ℕ) (r : RunRecord) → zeroMask c key iv ≡ true → length key ≡ 16 → length iv ≡ 16 → r .first + r .count ≤ limit → notWhole inWords r ≡ false
+  pub of-close : (key iv : List ℕ) (r : RunRecord) → zeroMask c key iv ≡ true → KeyLength key → length iv ≡ 16 → r .first + r .count ≤ limit → notWhole inWords r ≡ false
       → close inWords c key iv r ≡ refused 10
-  pub of-test : (key iv : List ℕ) (r : RunRecord) (tag : List ℕ) → zeroMask c key iv ≡ true → length key ≡ 16 → length iv ≡ 16 → length tag ≡ 16
+  pub of-test : (key iv : List ℕ) (r : RunRecord) (tag : List ℕ) → zeroMask c key iv ≡ true → KeyLength key → length iv ≡ 16 → length tag ≡ 16
       → r .first + r .count ≤ limit → notWhole inWords r ≡ false → test inWords c key iv r tag ≡ refused 10
 
 -- some rows without those of number n
@@ -363,11 +382,11 @@ pub record SignedJump (c : Cipher) : Type 0 where
       → (m : List ℕ) × (n : List ℕ) × (JumpsTo mask d m × JumpsTo m e n × JumpsTo mask (d +ℤ e) n)
   -- a run's first mask jumped back by its first block, and closing's mask jumped back by the count, are the start mask; and so is the mask
   -- that steps 1 and 2 give after any blocks, nothing cut, jumped back by their number
-  pub from-run : (key iv : List ℕ) (first : ℕ) → Block key → Block iv → first ≤ limit
+  pub from-run : (key iv : List ℕ) (first : ℕ) → Key key → Block iv → first ≤ limit
       → JumpsTo (firstMask c key iv first) (negℤ (pos first)) (startMask c key iv)
-  pub from-closing : (key iv : List ℕ) (r : RunRecord) → Block key → Block iv → r .count ≤ limit
+  pub from-closing : (key iv : List ℕ) (r : RunRecord) → Key key → Block iv → r .count ≤ limit
       → JumpsTo (closingMask c key iv r) (negℤ (pos (r .count))) (startMask c key iv)
-  pub from-unbroken : (s : Source) (key iv : List ℕ) (before : List (List ℕ)) → Block key → Block iv → length before ≤ limit
+  pub from-unbroken : (s : Source) (key iv : List ℕ) (before : List (List ℕ)) → Key key → Block iv → length before ≤ limit
       → JumpsTo ((unbroken c s key iv before) .mask) (negℤ (pos (length before))) (startMask c key iv)
 
 -- ---- beside demand 3
@@ -408,7 +427,7 @@ SealedWhole c =
 -- checking a run's ciphertext gives the record that sealing it gave
 abbrev pub CheckedAsSealed : Cipher → Type 0
 CheckedAsSealed c =
-    (key iv : List ℕ) → Block key → Block iv → (first : ℕ) (kind : Kind) (bytes : List ℕ) (room : ℕ) → Bytes bytes
+    (key iv : List ℕ) → Key key → Block iv → (first : ℕ) (kind : Kind) (bytes : List ℕ) (room : ℕ) → Bytes bytes
     → (r : RunRecord) → (sealRun inWords c key iv first kind bytes room) .answer ≡ given r
     → checkRun inWords c key iv first (take ((sealRun inWords c key iv first kind bytes room) .reported) ((sealRun inWords c key iv first kind bytes room) .output)) ≡ given r
 

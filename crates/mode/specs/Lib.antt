@@ -1,4 +1,4 @@
--- Mode: steps 1 to 3 of document 01, over any cipher. Aes: AES-128 as that cipher. Table: the refusals. Calls: what each call answers.
+-- Mode: steps 1 to 3 of document 01, over any cipher. Aes: AES as that cipher. Table: the refusals. Calls: what each call answers.
 -- Powers: the power of the variable that joining keeps. Parallel: the rack, and lists of calls on it. Demands: what is promised, as types.
 pub mod Mode
 pub mod Aes

@@ -7,6 +7,7 @@ use lib.ListN.{length, take, drop}
 use Rattle.blocks.specs.Bytes.{Bytes, Block, xorBytes, same, zeros, firstBlocks}
 use Rattle.blocks.specs.Words.{bytesOf, wordsOf}
 use Rattle.gf128.specs.Gf128.{timesX}
+use Rattle.fips197.specs.Aes.{KeyLength, Key}
 -- document 01's run record, as the code declares it: first, count, and the pre-authenticator in two words (ticket P12)
 pub use Rattle.mode.specs.declared.RunRecord.{RunRecord}
 
@@ -17,20 +18,20 @@ pub record Cipher : Type 0 where
   pub firstHalfBack : List ℕ → List ℕ → List ℕ
   pub secondHalfBack : List ℕ → List ℕ → List ℕ
 
--- What the mode needs to know of it: each half gives a block, and is undone by its inverse, both ways round.
+-- What the mode needs to know of it, under a key of 16 or 32 bytes: each half gives a block, and is undone by its inverse, both ways round.
 pub record Lawful (c : Cipher) : Type 0 where
-  pub firstHalf-long : (key b : List ℕ) → length key ≡ 16 → length b ≡ 16 → length (c .firstHalf key b) ≡ 16
-  pub secondHalf-long : (key b : List ℕ) → length key ≡ 16 → length b ≡ 16 → length (c .secondHalf key b) ≡ 16
-  pub firstHalfBack-long : (key b : List ℕ) → length key ≡ 16 → length b ≡ 16 → length (c .firstHalfBack key b) ≡ 16
-  pub secondHalfBack-long : (key b : List ℕ) → length key ≡ 16 → length b ≡ 16 → length (c .secondHalfBack key b) ≡ 16
-  pub firstHalf-bytes : (key b : List ℕ) → Block key → Block b → Bytes (c .firstHalf key b)
-  pub secondHalf-bytes : (key b : List ℕ) → Block key → Block b → Bytes (c .secondHalf key b)
-  pub firstHalfBack-bytes : (key b : List ℕ) → Block key → Block b → Bytes (c .firstHalfBack key b)
-  pub secondHalfBack-bytes : (key b : List ℕ) → Block key → Block b → Bytes (c .secondHalfBack key b)
-  pub firstHalf-undone : (key b : List ℕ) → Block key → Block b → c .firstHalfBack key (c .firstHalf key b) ≡ b
-  pub firstHalfBack-undone : (key b : List ℕ) → Block key → Block b → c .firstHalf key (c .firstHalfBack key b) ≡ b
-  pub secondHalf-undone : (key b : List ℕ) → Block key → Block b → c .secondHalfBack key (c .secondHalf key b) ≡ b
-  pub secondHalfBack-undone : (key b : List ℕ) → Block key → Block b → c .secondHalf key (c .secondHalfBack key b) ≡ b
+  pub firstHalf-long : (key b : List ℕ) → KeyLength key → length b ≡ 16 → length (c .firstHalf key b) ≡ 16
+  pub secondHalf-long : (key b : List ℕ) → KeyLength key → length b ≡ 16 → length (c .secondHalf key b) ≡ 16
+  pub firstHalfBack-long : (key b : List ℕ) → KeyLength key → length b ≡ 16 → length (c .firstHalfBack key b) ≡ 16
+  pub secondHalfBack-long : (key b : List ℕ) → KeyLength key → length b ≡ 16 → length (c .secondHalfBack key b) ≡ 16
+  pub firstHalf-bytes : (key b : List ℕ) → Key key → Block b → Bytes (c .firstHalf key b)
+  pub secondHalf-bytes : (key b : List ℕ) → Key key → Block b → Bytes (c .secondHalf key b)
+  pub firstHalfBack-bytes : (key b : List ℕ) → Key key → Block b → Bytes (c .firstHalfBack key b)
+  pub secondHalfBack-bytes : (key b : List ℕ) → Key key → Block b → Bytes (c .secondHalfBack key b)
+  pub firstHalf-undone : (key b : List ℕ) → Key key → Block b → c .firstHalfBack key (c .firstHalf key b) ≡ b
+  pub firstHalfBack-undone : (key b : List ℕ) → Key key → Block b → c .firstHalf key (c .firstHalfBack key b) ≡ b
+  pub secondHalf-undone : (key b : List ℕ) → Key key → Block b → c .secondHalfBack key (c .secondHalf key b) ≡ b
+  pub secondHalfBack-undone : (key b : List ℕ) → Key key → Block b → c .secondHalf key (c .secondHalfBack key b) ≡ b
 
 -- ---- bytes and blocks
 
@@ -44,6 +45,11 @@ padded message = message ++ (0x80 ∷ zeros (15 - length message % 16))
 
 abbrev pub zeroBlock : List ℕ
 zeroBlock = zeros 16
+
+-- Ticket P8: where the mode adds the key to a block or uses it as a mask, a long key lends its first 16 bytes. Source document 000 has keys of
+-- 16 bytes alone, which lend themselves; the rule for others is document 02's. Step 1 is the only place.
+unfoldable pub keyBlock : List ℕ → List ℕ
+keyBlock key = take 16 key
 
 -- a sealed record's parts: the IV, the ciphertext and the tag
 unfoldable pub ivPart : List ℕ → List ℕ
@@ -106,11 +112,12 @@ module _ (c : Cipher) where
   unfoldable pub encrypt : List ℕ → List ℕ → List ℕ
   encrypt key block = c .secondHalf key (c .firstHalf key block)
 
-  -- Step 1. Start mask: encrypt (IV plus key), add the key. If that is zero, the start mask is the key.
+  -- Step 1. Start mask: encrypt (IV plus key), add the key. If that is zero, the start mask is the key. What is added, and what replaces a
+  -- zero sum, is the key's first block; it encrypts by all its bytes.
   unfoldable pub startMask : List ℕ → List ℕ → List ℕ
   startMask key iv =
-      let sum = xorBytes (encrypt key (xorBytes iv key)) key in
-      cond (same sum zeroBlock) key sum
+      let sum = xorBytes (encrypt key (xorBytes iv (keyBlock key))) (keyBlock key) in
+      cond (same sum zeroBlock) (keyBlock key) sum
 
   -- Step 2. A block's middletext is the first half applied to (block plus mask); from ciphertext, the second half run backwards on
   -- (ciphertext block plus mask).

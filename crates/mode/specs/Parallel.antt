@@ -6,6 +6,7 @@ use mathlib.Core.Bool.{Bool, true, false}
 use Prim.Native.Nat.{ℕ, zero, suc, _+_, _-_, _/_, _%_, _≤_, _<_}
 use lib.ListN.{length, take, drop, getD, set}
 use Rattle.blocks.specs.Bytes.{Bytes, concat}
+use Rattle.fips197.specs.Aes.{Key}
 use Rattle.mode.specs.Mode.{Source, plaintext, ciphertext, RunRecord, inWords, ivPart, cipherPart}
 use Rattle.mode.specs.Table.{Answer, refused, given, apart, longestMessage, longestSealed}
 use Rattle.mode.specs.Calls.{Kind, middle, last, blocksOfRun, Outcome, outcomeBy, blank, Calls}
@@ -56,10 +57,9 @@ pub record Setting : Type 0 where
   pub work : Work
   pub pieces : List (List ℕ)
 
--- whatever is handed to a call is bytes
+-- a key of 16 or 32 bytes; whatever is handed to a call is bytes
 pub record WellFormed (s : Setting) : Type 0 where
-  pub key-long : length (s .key) ≡ 16
-  pub key-bytes : Bytes (s .key)
+  pub key-is : Key (s .key)
   pub iv-bytes : Bytes (ivOf (s .work))
   pub text-bytes : Bytes (textOf (s .work))
   pub fits : Fits (s .work)

@@ -1,4 +1,4 @@
--- Why a list is refused: document 01's table, and ticket P3's row 10 in it. A row is a number and whether its condition holds; the first row
+-- Why a list is refused: document 01's table, with ticket P8's row 1, and ticket P3's row 10 in it. A row is a number and whether its condition holds; the first row
 -- that holds, in the table's order, is the answer.
 use mathlib.Core.Path.{_≡_}
 use mathlib.Core.List.{List, [], _∷_, _++_}
@@ -60,7 +60,11 @@ longestSealed = 16 * limit + 32
 
 -- ---- the conditions
 
--- 1, 2, and 3 of a tag or a mask: not 16 bytes
+-- 1 (ticket P8): a key that is neither 16 bytes nor 32
+unfoldable pub notKey : List ℕ → Bool
+notKey key = not (eqb (length key) 16 || eqb (length key) 32)
+
+-- 2, and 3 of a tag or a mask: not 16 bytes
 unfoldable pub not16 : List ℕ → Bool
 not16 bytes = not (eqb (length bytes) 16)
 
