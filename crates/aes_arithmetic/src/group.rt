@@ -2,23 +2,22 @@
 ghost use mathlib.Core.Path.{_≡_};
 ghost use Prim.Native.Nat.{_≤_};
 ghost use lib.ListN.{length};
-ghost use Rattle.blocks.specs.Bytes.{firstBlocks};
 ghost use Rattle.groups.specs.Group.{blockAt, Holds};
-ghost use Rattle.fips197.specs.Cipher.{firstHalf, secondHalf, invFirstHalf, invSecondHalf};
+ghost use Rattle.aes_steps.specs.Schedule.{Schedule, firstHalfBy, secondHalfBy, invFirstHalfBy, invSecondHalfBy};
 
 // n blocks of a group through both halves. `middle` gets what the first gives.
 pub fn encrypt(
     group: &mut [u64; groups::WORDS],
     middle: &mut [u64; groups::WORDS],
     n: usize,
-    keys: &[u8; 176],
+    keys: &[u8; crate::KEYS],
 )
     requires { ⌜ length (now group) ≡ 64 ⌝ }
     requires { ⌜ length (now middle) ≡ 64 ⌝ }
     requires { ⌜ n ≤ 32 ⌝ }
-    requires { ⌜ length (now keys) ≡ 176 ⌝ }
-    ensures middle { λ _. ⌜ Holds n (λ i. firstHalf 5 (firstBlocks 11 (now (keys .entry))) (blockAt (now (group .entry)) i)) (now (middle .exit)) ⌝ }
-    ensures group { λ _. ⌜ Holds n (λ i. secondHalf 5 10 (firstBlocks 11 (now (keys .entry))) (firstHalf 5 (firstBlocks 11 (now (keys .entry))) (blockAt (now (group .entry)) i))) (now (group .exit)) ⌝ }
+    requires { ⌜ Schedule (now keys) ⌝ }
+    ensures middle { λ _. ⌜ Holds n (λ i. firstHalfBy (now (keys .entry)) (blockAt (now (group .entry)) i)) (now (middle .exit)) ⌝ }
+    ensures group { λ _. ⌜ Holds n (λ i. secondHalfBy (now (keys .entry)) (firstHalfBy (now (keys .entry)) (blockAt (now (group .entry)) i))) (now (group .exit)) ⌝ }
 {
     let mut i: usize = 0;
     while i < n {
@@ -39,14 +38,14 @@ pub fn decrypt(
     group: &mut [u64; groups::WORDS],
     middle: &mut [u64; groups::WORDS],
     n: usize,
-    keys: &[u8; 176],
+    keys: &[u8; crate::KEYS],
 )
     requires { ⌜ length (now group) ≡ 64 ⌝ }
     requires { ⌜ length (now middle) ≡ 64 ⌝ }
     requires { ⌜ n ≤ 32 ⌝ }
-    requires { ⌜ length (now keys) ≡ 176 ⌝ }
-    ensures middle { λ _. ⌜ Holds n (λ i. invSecondHalf 5 10 (firstBlocks 11 (now (keys .entry))) (blockAt (now (group .entry)) i)) (now (middle .exit)) ⌝ }
-    ensures group { λ _. ⌜ Holds n (λ i. invFirstHalf 5 (firstBlocks 11 (now (keys .entry))) (invSecondHalf 5 10 (firstBlocks 11 (now (keys .entry))) (blockAt (now (group .entry)) i))) (now (group .exit)) ⌝ }
+    requires { ⌜ Schedule (now keys) ⌝ }
+    ensures middle { λ _. ⌜ Holds n (λ i. invSecondHalfBy (now (keys .entry)) (blockAt (now (group .entry)) i)) (now (middle .exit)) ⌝ }
+    ensures group { λ _. ⌜ Holds n (λ i. invFirstHalfBy (now (keys .entry)) (invSecondHalfBy (now (keys .entry)) (blockAt (now (group .entry)) i))) (now (group .exit)) ⌝ }
 {
     let mut i: usize = 0;
     while i < n {
@@ -63,11 +62,11 @@ pub fn decrypt(
 }
 
 // n blocks of a group with the second half undone: the middletexts of ciphertext.
-pub fn middletexts(group: &mut [u64; groups::WORDS], n: usize, keys: &[u8; 176])
+pub fn middletexts(group: &mut [u64; groups::WORDS], n: usize, keys: &[u8; crate::KEYS])
     requires { ⌜ length (now group) ≡ 64 ⌝ }
     requires { ⌜ n ≤ 32 ⌝ }
-    requires { ⌜ length (now keys) ≡ 176 ⌝ }
-    ensures { λ _. ⌜ Holds n (λ i. invSecondHalf 5 10 (firstBlocks 11 (now (keys .entry))) (blockAt (now (group .entry)) i)) (now (group .exit)) ⌝ }
+    requires { ⌜ Schedule (now keys) ⌝ }
+    ensures { λ _. ⌜ Holds n (λ i. invSecondHalfBy (now (keys .entry)) (blockAt (now (group .entry)) i)) (now (group .exit)) ⌝ }
 {
     let mut i: usize = 0;
     while i < n {

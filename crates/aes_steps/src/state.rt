@@ -1,13 +1,13 @@
 // FIPS 197, 5.1 and 5.3: the steps of a round. A state is 16 bytes, column after column.
 ghost use mathlib.Core.Path.{_≡_};
-ghost use mathlib.Core.List.{[]};
 ghost use Prim.Native.Nat.{_+_, _*_, _%_, _<_, _≤_};
 ghost use lib.Bits.{bitXor};
-ghost use lib.ListN.{length, getD};
-ghost use Rattle.blocks.specs.Bytes.{firstBlocks};
+ghost use lib.ListN.{getD};
 ghost use Rattle.blocks.specs.Tab.{tab};
 ghost use Rattle.fips197.specs.Gf256.{xtimes, gmul};
 ghost use Rattle.fips197.specs.State.{shiftRows, invShiftRows, mix as mixOf, mixColumns, invMixColumns, addRoundKey};
+ghost use Rattle.fips197.specs.Cipher.{roundKey};
+ghost use Rattle.aes_steps.specs.Schedule.{roundsIn, roundKeysIn, Schedule};
 
 // A byte times x.
 pub fn double(x: u8) -> u8
@@ -17,10 +17,10 @@ pub fn double(x: u8) -> u8
 }
 
 // Round key n added to a state.
-pub fn add_round_key(s: [u8; 16], keys: &[u8; 176], n: usize) -> [u8; 16]
-    requires { ⌜ length (now keys) ≡ 176 ⌝ }
-    requires { ⌜ n < 11 ⌝ }
-    ensures { λ r. ⌜ r ≡ addRoundKey s (getD (firstBlocks 11 (now (keys .entry))) n []) ⌝ }
+pub fn add_round_key(s: [u8; 16], keys: &[u8; crate::schedule::BYTES], n: usize) -> [u8; 16]
+    requires { ⌜ Schedule (now keys) ⌝ }
+    requires { ⌜ n ≤ roundsIn (now keys) ⌝ }
+    ensures { λ r. ⌜ r ≡ addRoundKey s (roundKey (roundKeysIn (now (keys .entry))) n) ⌝ }
 {
     let mut r = [0u8; 16];
     for i in 0..16 {

@@ -1,18 +1,18 @@
 -- The halves that a group goes through, and what each asks of the table that it is lent.
 use mathlib.Core.List.{List}
 use Prim.Native.Nat.{ℕ}
-use Rattle.fips197.specs.Cipher.{firstHalf, secondHalf, invFirstHalf}
 use Rattle.fips197.specs.Sbox.{sbox, invSbox}
+use Rattle.aes_steps.specs.Schedule.{firstHalfBy, secondHalfBy, invFirstHalfBy}
 use Rattle.aes_tables.specs.Table.{Tabulates}
 -- as the code declares them
 use Rattle.aes_tables.specs.declared.group.Half.{Half}
 use Rattle.aes_tables.specs.declared.group.Half.the-variants.{First, Second, InvFirst}
 
--- document 01's halves, and the first run backwards: by the round keys, then the block
-unfoldable pub halfOf : Half → List (List ℕ) → List ℕ → List ℕ
-halfOf First ks s = firstHalf 5 ks s
-halfOf Second ks s = secondHalf 5 10 ks s
-halfOf InvFirst ks s = invFirstHalf 5 ks s
+-- document 01's halves, and the first run backwards: by the schedule, then the block
+unfoldable pub halfOf : Half → List ℕ → List ℕ → List ℕ
+halfOf First = firstHalfBy
+halfOf Second = secondHalfBy
+halfOf InvFirst = invFirstHalfBy
 
 unfoldable pub tabled : Half → ℕ → ℕ
 tabled First = sbox

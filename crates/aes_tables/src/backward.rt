@@ -1,19 +1,17 @@
 // FIPS 197, 5.3: the rounds undone, and the two halves run backwards.
 ghost use mathlib.Core.Path.{_≡_};
-ghost use mathlib.Core.List.{[]};
-ghost use Prim.Native.Nat.{_<_, _≤_};
-ghost use lib.ListN.{length, getD};
+ghost use Prim.Native.Nat.{_+_, _≤_};
 ghost use lib.Seq.{slice};
-ghost use Rattle.blocks.specs.Bytes.{firstBlocks};
 ghost use Rattle.fips197.specs.Sbox.{invSbox};
-ghost use Rattle.fips197.specs.Cipher.{invRound, invRounds, invFirstHalf, invSecondHalf};
+ghost use Rattle.fips197.specs.Cipher.{roundKey, invRound, invRounds};
+ghost use Rattle.aes_steps.specs.Schedule.{roundsIn, roundKeysIn, Schedule, invFirstHalfBy, invSecondHalfBy};
 ghost use Rattle.aes_tables.specs.Table.{Tabulates};
 
-fn inv_round(s: [u8; 16], keys: &[u8; 176], n: usize, inv_sbox: &[u8; 256]) -> [u8; 16]
-    requires { ⌜ length (now keys) ≡ 176 ⌝ }
-    requires { ⌜ n < 11 ⌝ }
+fn inv_round(s: [u8; 16], keys: &[u8; crate::KEYS], n: usize, inv_sbox: &[u8; 256]) -> [u8; 16]
+    requires { ⌜ Schedule (now keys) ⌝ }
+    requires { ⌜ n ≤ roundsIn (now keys) ⌝ }
     requires { ⌜ Tabulates (now «inv_sbox») invSbox ⌝ }
-    ensures { λ r. ⌜ r ≡ invRound s (getD (firstBlocks 11 (now (keys .entry))) n []) ⌝ }
+    ensures { λ r. ⌜ r ≡ invRound s (roundKey (roundKeysIn (now (keys .entry))) n) ⌝ }
 {
     let a = aes_steps::state::add_round_key(s, keys, n);
     let b = aes_steps::state::inv_mix_columns(a);
@@ -23,16 +21,16 @@ fn inv_round(s: [u8; 16], keys: &[u8; 176], n: usize, inv_sbox: &[u8; 256]) -> [
 // The rounds with the keys from `from` up to, not including, `to`, undone: the last one first.
 fn inv_rounds(
     s: [u8; 16],
-    keys: &[u8; 176],
+    keys: &[u8; crate::KEYS],
     from: usize,
     to: usize,
     inv_sbox: &[u8; 256],
 ) -> [u8; 16]
-    requires { ⌜ length (now keys) ≡ 176 ⌝ }
+    requires { ⌜ Schedule (now keys) ⌝ }
     requires { ⌜ from ≤ to ⌝ }
-    requires { ⌜ to ≤ 11 ⌝ }
+    requires { ⌜ to ≤ roundsIn (now keys) + 1 ⌝ }
     requires { ⌜ Tabulates (now «inv_sbox») invSbox ⌝ }
-    ensures { λ r. ⌜ r ≡ invRounds (slice from to (firstBlocks 11 (now (keys .entry)))) s ⌝ }
+    ensures { λ r. ⌜ r ≡ invRounds (slice from to (roundKeysIn (now (keys .entry)))) s ⌝ }
 {
     let mut t = s;
     let mut i = to;
@@ -44,23 +42,26 @@ fn inv_rounds(
     t
 }
 
-// Rounds 5 to 1, and the key whitening, undone.
-pub fn inv_first_half(s: [u8; 16], keys: &[u8; 176], inv_sbox: &[u8; 256]) -> [u8; 16]
-    requires { ⌜ length (now keys) ≡ 176 ⌝ }
+// The first half of the rounds and the key whitening, undone.
+pub fn inv_first_half(s: [u8; 16], keys: &[u8; crate::KEYS], inv_sbox: &[u8; 256]) -> [u8; 16]
+    requires { ⌜ Schedule (now keys) ⌝ }
     requires { ⌜ Tabulates (now «inv_sbox») invSbox ⌝ }
-    ensures { λ r. ⌜ r ≡ invFirstHalf 5 (firstBlocks 11 (now (keys .entry))) s ⌝ }
+    ensures { λ r. ⌜ r ≡ invFirstHalfBy (now (keys .entry)) s ⌝ }
 {
-    let t = inv_rounds(s, keys, 1, 6, inv_sbox);
+    let half = aes_steps::schedule::half(keys);
+    let t = inv_rounds(s, keys, 1, half + 1, inv_sbox);
     aes_steps::state::add_round_key(t, keys, 0)
 }
 
-// Rounds 10 to 6 undone.
-pub fn inv_second_half(s: [u8; 16], keys: &[u8; 176], inv_sbox: &[u8; 256]) -> [u8; 16]
-    requires { ⌜ length (now keys) ≡ 176 ⌝ }
+// The other half undone, the last round first.
+pub fn inv_second_half(s: [u8; 16], keys: &[u8; crate::KEYS], inv_sbox: &[u8; 256]) -> [u8; 16]
+    requires { ⌜ Schedule (now keys) ⌝ }
     requires { ⌜ Tabulates (now «inv_sbox») invSbox ⌝ }
-    ensures { λ r. ⌜ r ≡ invSecondHalf 5 10 (firstBlocks 11 (now (keys .entry))) s ⌝ }
+    ensures { λ r. ⌜ r ≡ invSecondHalfBy (now (keys .entry)) s ⌝ }
 {
-    let t = aes_steps::state::add_round_key(s, keys, 10);
+    let half = aes_steps::schedule::half(keys);
+    let last = aes_steps::schedule::rounds(keys);
+    let t = aes_steps::state::add_round_key(s, keys, last);
     let u = crate::state::inv_shift_sub(t, inv_sbox);
-    inv_rounds(u, keys, 6, 10, inv_sbox)
+    inv_rounds(u, keys, half + 1, last, inv_sbox)
 }

@@ -5,10 +5,9 @@ ghost use mathlib.Core.Path.{_≡_};
 ghost use mathlib.Core.List.{_++_};
 ghost use Prim.Native.Nat.{_+_, _*_, _≤_};
 ghost use lib.ListN.{length, take, drop};
-ghost use Rattle.blocks.specs.Bytes.{firstBlocks};
 ghost use Rattle.groups.specs.Group.{blockAt, blockOf, Holds, inFront};
 ghost use Rattle.fips197.specs.Sbox.{invSbox};
-ghost use Rattle.fips197.specs.Cipher.{firstHalf, secondHalf, invFirstHalf, invSecondHalf};
+ghost use Rattle.aes_steps.specs.Schedule.{Schedule, firstHalfBy, secondHalfBy, invFirstHalfBy, invSecondHalfBy};
 ghost use Rattle.aes_tables.specs.Table.{Tabulates};
 ghost use Rattle.aes_tables.specs.Half.{halfOf, TableOf};
 
@@ -20,11 +19,11 @@ pub enum Half {
 }
 
 // The block of a slice at an offset goes through a half.
-fn one(which: Half, text: &mut [u8], at: usize, keys: &[u8; 176], table: &[u8; 256])
+fn one(which: Half, text: &mut [u8], at: usize, keys: &[u8; crate::KEYS], table: &[u8; 256])
     requires { ⌜ at + 16 ≤ length (now text) ⌝ }
-    requires { ⌜ length (now keys) ≡ 176 ⌝ }
+    requires { ⌜ Schedule (now keys) ⌝ }
     requires { ⌜ TableOf which (now table) ⌝ }
-    ensures { λ _. ⌜ now (text .exit) ≡ take at (now (text .entry)) ++ halfOf which (firstBlocks 11 (now (keys .entry))) (take 16 (drop at (now (text .entry)))) ++ drop (at + 16) (now (text .entry)) ⌝ }
+    ensures { λ _. ⌜ now (text .exit) ≡ take at (now (text .entry)) ++ halfOf which (now (keys .entry)) (take 16 (drop at (now (text .entry)))) ++ drop (at + 16) (now (text .entry)) ⌝ }
 {
     let block = blocks::block::load(text, at);
     match which {
@@ -44,11 +43,11 @@ fn one(which: Half, text: &mut [u8], at: usize, keys: &[u8; 176], table: &[u8; 2
 }
 
 // The n blocks in front of a slice go through a half.
-fn each(which: Half, text: &mut [u8], n: usize, keys: &[u8; 176], table: &[u8; 256])
+fn each(which: Half, text: &mut [u8], n: usize, keys: &[u8; crate::KEYS], table: &[u8; 256])
     requires { ⌜ n * 16 ≤ length (now text) ⌝ }
-    requires { ⌜ length (now keys) ≡ 176 ⌝ }
+    requires { ⌜ Schedule (now keys) ⌝ }
     requires { ⌜ TableOf which (now table) ⌝ }
-    ensures { λ _. ⌜ now (text .exit) ≡ inFront n (λ i. halfOf which (firstBlocks 11 (now (keys .entry))) (blockOf (now (text .entry)) i)) (now (text .entry)) ⌝ }
+    ensures { λ _. ⌜ now (text .exit) ≡ inFront n (λ i. halfOf which (now (keys .entry)) (blockOf (now (text .entry)) i)) (now (text .entry)) ⌝ }
 {
     let mut i: usize = 0;
     while i < n {
@@ -64,14 +63,14 @@ pub fn encrypt(
     group: &mut [u64; groups::WORDS],
     middle: &mut [u64; groups::WORDS],
     n: usize,
-    keys: &[u8; 176],
+    keys: &[u8; crate::KEYS],
 )
     requires { ⌜ length (now group) ≡ 64 ⌝ }
     requires { ⌜ length (now middle) ≡ 64 ⌝ }
     requires { ⌜ n ≤ 32 ⌝ }
-    requires { ⌜ length (now keys) ≡ 176 ⌝ }
-    ensures middle { λ _. ⌜ Holds n (λ i. firstHalf 5 (firstBlocks 11 (now (keys .entry))) (blockAt (now (group .entry)) i)) (now (middle .exit)) ⌝ }
-    ensures group { λ _. ⌜ Holds n (λ i. secondHalf 5 10 (firstBlocks 11 (now (keys .entry))) (firstHalf 5 (firstBlocks 11 (now (keys .entry))) (blockAt (now (group .entry)) i))) (now (group .exit)) ⌝ }
+    requires { ⌜ Schedule (now keys) ⌝ }
+    ensures middle { λ _. ⌜ Holds n (λ i. firstHalfBy (now (keys .entry)) (blockAt (now (group .entry)) i)) (now (middle .exit)) ⌝ }
+    ensures group { λ _. ⌜ Holds n (λ i. secondHalfBy (now (keys .entry)) (firstHalfBy (now (keys .entry)) (blockAt (now (group .entry)) i))) (now (group .exit)) ⌝ }
 {
     let sbox = &crate::sbox::SBOX;
     let mut text = [0u8; 512];
@@ -88,15 +87,15 @@ pub fn encrypt(
 fn undo_second(
     group: &[u64; groups::WORDS],
     n: usize,
-    keys: &[u8; 176],
+    keys: &[u8; crate::KEYS],
     inv_sbox: &[u8; 256],
     text: &mut [u8],
 )
     requires { ⌜ n ≤ 32 ⌝ }
-    requires { ⌜ length (now keys) ≡ 176 ⌝ }
+    requires { ⌜ Schedule (now keys) ⌝ }
     requires { ⌜ Tabulates (now «inv_sbox») invSbox ⌝ }
     requires { ⌜ n * 16 ≤ length (now text) ⌝ }
-    ensures { λ _. ⌜ now (text .exit) ≡ inFront n (λ i. invSecondHalf 5 10 (firstBlocks 11 (now (keys .entry))) (blockAt (now (group .entry)) i)) (now (text .entry)) ⌝ }
+    ensures { λ _. ⌜ now (text .exit) ≡ inFront n (λ i. invSecondHalfBy (now (keys .entry)) (blockAt (now (group .entry)) i)) (now (text .entry)) ⌝ }
 {
     let mut i: usize = 0;
     while i < n {
@@ -113,14 +112,14 @@ pub fn decrypt(
     group: &mut [u64; groups::WORDS],
     middle: &mut [u64; groups::WORDS],
     n: usize,
-    keys: &[u8; 176],
+    keys: &[u8; crate::KEYS],
 )
     requires { ⌜ length (now group) ≡ 64 ⌝ }
     requires { ⌜ length (now middle) ≡ 64 ⌝ }
     requires { ⌜ n ≤ 32 ⌝ }
-    requires { ⌜ length (now keys) ≡ 176 ⌝ }
-    ensures middle { λ _. ⌜ Holds n (λ i. invSecondHalf 5 10 (firstBlocks 11 (now (keys .entry))) (blockAt (now (group .entry)) i)) (now (middle .exit)) ⌝ }
-    ensures group { λ _. ⌜ Holds n (λ i. invFirstHalf 5 (firstBlocks 11 (now (keys .entry))) (invSecondHalf 5 10 (firstBlocks 11 (now (keys .entry))) (blockAt (now (group .entry)) i))) (now (group .exit)) ⌝ }
+    requires { ⌜ Schedule (now keys) ⌝ }
+    ensures middle { λ _. ⌜ Holds n (λ i. invSecondHalfBy (now (keys .entry)) (blockAt (now (group .entry)) i)) (now (middle .exit)) ⌝ }
+    ensures group { λ _. ⌜ Holds n (λ i. invFirstHalfBy (now (keys .entry)) (invSecondHalfBy (now (keys .entry)) (blockAt (now (group .entry)) i))) (now (group .exit)) ⌝ }
 {
     let inv_sbox = &crate::inv_sbox::INV_SBOX;
     let mut text = [0u8; 512];
@@ -131,11 +130,11 @@ pub fn decrypt(
 }
 
 // n blocks of a group with the second half undone: the middletexts of ciphertext.
-pub fn middletexts(group: &mut [u64; groups::WORDS], n: usize, keys: &[u8; 176])
+pub fn middletexts(group: &mut [u64; groups::WORDS], n: usize, keys: &[u8; crate::KEYS])
     requires { ⌜ length (now group) ≡ 64 ⌝ }
     requires { ⌜ n ≤ 32 ⌝ }
-    requires { ⌜ length (now keys) ≡ 176 ⌝ }
-    ensures { λ _. ⌜ Holds n (λ i. invSecondHalf 5 10 (firstBlocks 11 (now (keys .entry))) (blockAt (now (group .entry)) i)) (now (group .exit)) ⌝ }
+    requires { ⌜ Schedule (now keys) ⌝ }
+    ensures { λ _. ⌜ Holds n (λ i. invSecondHalfBy (now (keys .entry)) (blockAt (now (group .entry)) i)) (now (group .exit)) ⌝ }
 {
     let inv_sbox = &crate::inv_sbox::INV_SBOX;
     let mut i: usize = 0;

@@ -1,8 +1,10 @@
-// FIPS 197, 5.2: the key schedule, eleven round keys in 176 bytes.
+// FIPS 197, 5.2: the key schedule, for a key of four words or of eight.
 ghost use mathlib.Core.Path.{_≡_};
-ghost use Prim.Native.Nat.{_<_, _≤_};
 ghost use Rattle.fips197.specs.Sbox.{sbox as sboxOf};
-ghost use Rattle.fips197.specs.KeyExpansion.{subWord, temp, keyExpansion};
+ghost use Rattle.fips197.specs.KeyExpansion.{subWord, temp};
+ghost use Rattle.fips197.specs.Aes.{KeyLength};
+ghost use Rattle.aes_steps.specs.Schedule.{scheduleOf};
+ghost use Rattle.aes_steps.specs.Words.{KeyWords};
 ghost use Rattle.aes_tables.specs.Table.{Tabulates};
 
 fn sub_word(t: [u8; 4], sbox: &[u8; 256]) -> [u8; 4]
@@ -17,33 +19,35 @@ fn sub_word(t: [u8; 4], sbox: &[u8; 256]) -> [u8; 4]
     ]
 }
 
-// The word before word i, as it goes into word i.
-fn temp_word(t: [u8; 4], i: usize, sbox: &[u8; 256]) -> [u8; 4]
-    requires { ⌜ 4 ≤ i ⌝ }
-    requires { ⌜ i < 44 ⌝ }
+// The word before word i, as it goes into word i. Under four words and under eight, the S-box is at work in every fourth.
+fn temp_word(t: [u8; 4], i: usize, nk: usize, sbox: &[u8; 256]) -> [u8; 4]
+    requires { ⌜ KeyWords nk i ⌝ }
     requires { ⌜ Tabulates (now sbox) sboxOf ⌝ }
-    ensures { λ r. ⌜ r ≡ temp 4 t i ⌝ }
+    ensures { λ r. ⌜ r ≡ temp nk t i ⌝ }
 {
     if i % 4 == 0 {
         let s = sub_word(t, sbox);
-        aes_steps::schedule::turned(s, i)
+        aes_steps::schedule::after_sub(s, i, nk)
     } else {
         t
     }
 }
 
-// Every word but the key's is the word four before it and the turned word before it.
-pub fn expand(key: [u8; 16]) -> [u8; 176]
-    ensures { λ r. ⌜ r ≡ keyExpansion 4 10 key ⌝ }
+// Every word but the key's is the word nk before it and the word before it, as that goes into it.
+pub fn expand(key: &[u8]) -> [u8; crate::KEYS]
+    requires { ⌜ KeyLength (now key) ⌝ }
+    ensures { λ r. ⌜ r ≡ scheduleOf (now (key .entry)) ⌝ }
 {
     let sbox = &crate::sbox::SBOX;
+    let nk = key.len() / 4;
+    let end = 4 * (nk + 7);
     let mut w = aes_steps::schedule::first_words(key);
-    let mut n: usize = 0;
-    while n < 40 {
-        let t = aes_steps::schedule::word_at(&w, n + 3);
-        let u = temp_word(t, n + 4, sbox);
-        aes_steps::schedule::next_word(&mut w, n, u);
-        n += 1;
+    let mut i = nk;
+    while i < end {
+        let t = aes_steps::schedule::word_at(&w, i - 1);
+        let u = temp_word(t, i, nk, sbox);
+        aes_steps::schedule::next_word(&mut w, i, nk, u);
+        i += 1;
     }
     w
 }

@@ -1,11 +1,8 @@
 -- One half after the other.
 use borrow.Author.Needs.{needs}
 use mathlib.Core.Path.{ap, _∙_}
-use lib.Dec.{lit<}
-use Rattle.blocks.specs.Bytes.{firstBlocks}
-use Rattle.fips197.specs.Cipher.{secondHalf}
-use Rattle.fips197.proofs.Rounds.{halves-cipher}
-use Rattle.fips197.proofs.Lengths.{eleven}
+use Rattle.aes_steps.specs.Schedule.{secondHalfBy}
+use Rattle.aes_steps.proofs.Halves.{encrypt-by-halves}
 use Rattle.aes_arithmetic.proofs.block.encrypt.Statement.{statement}
 use Rattle.aes_arithmetic.proofs.block.encrypt.Tie as tie
 
@@ -18,9 +15,8 @@ second-half-requires c κs = search needs
 returns : tie.Need-returns
 returns c =
     let s = c .before .before in
-    let a = s .args in
-    c .second-half .ensures ∙ ap (secondHalf 5 10 (firstBlocks 11 (a .keys .now))) (c .before .first-half .ensures)
-    ∙ halves-cipher 5 10 (firstBlocks 11 (a .keys .now)) (lit< tt) (eleven (a .keys .now)) (a .block)
+    let w = s .args .keys .now in
+    c .second-half .ensures ∙ ap (secondHalfBy w) (c .before .first-half .ensures) ∙ encrypt-by-halves w (s .pre) (s .args .block)
 
 pub encrypt-spec : {M : Type 1} → statement M
 encrypt-spec = tie.close (tie.spec first-half-requires second-half-requires returns)

@@ -1,17 +1,17 @@
 -- What is left to do from here is what there was to do from the start.
 use borrow.Author.Needs.{needs}
 use mathlib.Core.Path.{_≡_, refl, sym, _∙_}
-use Prim.Native.Nat.{_≤_, _-_}
+use Prim.Native.Nat.{_+_, _≤_, _-_}
 use lib.Seq.{slice}
-use Rattle.blocks.specs.Bytes.{firstBlocks}
 use Rattle.blocks.proofs.Chunks.{length-blocks}
 use Rattle.fips197.specs.Cipher.{rounds}
+use Rattle.aes_steps.specs.Schedule.{roundsIn, roundKeysIn}
 use Rattle.fips197.proofs.Rounds.{rounds-turn, rounds-end}
 use Rattle.aes_arithmetic.proofs.forward.rounds.Statement.{statement}
 use Rattle.aes_arithmetic.proofs.forward.rounds.Tie as tie
 
 abbrev Inv-loop : tie.InvT-loop
-Inv-loop keys from to t₀ i₀ t i = (i ≤ to) × (rounds (slice i to (firstBlocks 11 keys)) t ≡ rounds (slice from to (firstBlocks 11 keys)) t₀)
+Inv-loop keys from to t₀ i₀ t i = (i ≤ to) × (rounds (slice i to (roundKeysIn keys)) t ≡ rounds (slice from to (roundKeysIn keys)) t₀)
 
 abbrev μ-loop : tie.MeasureT-loop
 μ-loop keys from to t₀ i₀ t i = to - i
@@ -32,9 +32,9 @@ loop-again : tie.Need-loop-again Inv-loop μ-loop
 loop-again c =
     let l = c .before .before in
     let a = l .before .args in
-    let h : a .to ≤ 11 = search needs in (
+    let h : a .to ≤ roundsIn (a .keys .now) + 1 = search needs in (
       search needs,
-      rounds-turn (firstBlocks 11 (a .keys .now)) (l .loop .i) (a .to) (l .loop .t) (c .round .result) (c .before .loop-test .taken) (rw (length-blocks 11 (a .keys .now)) h)
+      rounds-turn (roundKeysIn (a .keys .now)) (l .loop .i) (a .to) (l .loop .t) (c .round .result) (c .before .loop-test .taken) (rw (length-blocks (roundsIn (a .keys .now) + 1) (a .keys .now)) h)
           (c .round .ensures)
           ∙ l .loop .inv .1,
     )
@@ -43,7 +43,7 @@ returns : tie.Need-returns Inv-loop μ-loop
 returns c =
     let l = c .before in
     let a = l .before .args in
-    sym (rounds-end (firstBlocks 11 (a .keys .now)) (l .loop .i) (a .to) (l .loop .t) (l .loop .inv .0) (c .loop-test .left)) ∙ l .loop .inv .1
+    sym (rounds-end (roundKeysIn (a .keys .now)) (l .loop .i) (a .to) (l .loop .t) (l .loop .inv .0) (c .loop-test .left)) ∙ l .loop .inv .1
 
 pub rounds-spec : {M : Type 1} → statement M
 rounds-spec =

@@ -2,14 +2,13 @@
 use borrow.Author.Needs.{needs}
 use mathlib.Core.List.{List}
 use Prim.Native.Nat.{ℕ, _-_, _≤_}
-use Rattle.blocks.specs.Bytes.{firstBlocks}
-use Rattle.fips197.specs.Cipher.{invSecondHalf, invFirstHalf}
+use Rattle.aes_steps.specs.Schedule.{invFirstHalfBy, invSecondHalfBy}
 use Rattle.aes_arithmetic.proofs.Through.{Through, through-begins, through-turn, through-blocks, through-between}
 use Rattle.aes_arithmetic.proofs.group.decrypt.Statement.{statement}
 use Rattle.aes_arithmetic.proofs.group.decrypt.Tie as tie
 
 abbrev Inv-loop : tie.InvT-loop
-Inv-loop group₀ middle₀ n keys i₀ group middle i = (i ≤ n) × Through (invSecondHalf 5 10 (firstBlocks 11 keys)) (invFirstHalf 5 (firstBlocks 11 keys)) i group₀ group middle₀ middle
+Inv-loop group₀ middle₀ n keys i₀ group middle i = (i ≤ n) × Through (invSecondHalfBy keys) (invFirstHalfBy keys) i group₀ group middle₀ middle
 
 abbrev μ-loop : tie.MeasureT-loop
 μ-loop group₀ middle₀ n keys i₀ group middle i = n - i

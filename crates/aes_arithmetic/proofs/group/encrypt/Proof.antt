@@ -2,14 +2,13 @@
 use borrow.Author.Needs.{needs}
 use mathlib.Core.List.{List}
 use Prim.Native.Nat.{ℕ, _-_, _≤_}
-use Rattle.blocks.specs.Bytes.{firstBlocks}
-use Rattle.fips197.specs.Cipher.{firstHalf, secondHalf}
+use Rattle.aes_steps.specs.Schedule.{firstHalfBy, secondHalfBy}
 use Rattle.aes_arithmetic.proofs.Through.{Through, through-begins, through-turn, through-blocks, through-between}
 use Rattle.aes_arithmetic.proofs.group.encrypt.Statement.{statement}
 use Rattle.aes_arithmetic.proofs.group.encrypt.Tie as tie
 
 abbrev Inv-loop : tie.InvT-loop
-Inv-loop group₀ middle₀ n keys i₀ group middle i = (i ≤ n) × Through (firstHalf 5 (firstBlocks 11 keys)) (secondHalf 5 10 (firstBlocks 11 keys)) i group₀ group middle₀ middle
+Inv-loop group₀ middle₀ n keys i₀ group middle i = (i ≤ n) × Through (firstHalfBy keys) (secondHalfBy keys) i group₀ group middle₀ middle
 
 abbrev μ-loop : tie.MeasureT-loop
 μ-loop group₀ middle₀ n keys i₀ group middle i = n - i

@@ -3,15 +3,14 @@ use borrow.Author.Needs.{needs}
 use mathlib.Core.Path.{ap, _∙_}
 use Prim.Native.Nat.{_-_, _≤_}
 use native.Mathlib.Omega.{arith}
-use Rattle.blocks.specs.Bytes.{firstBlocks}
 use Rattle.groups.specs.Group.{blockAt}
 use Rattle.groups.proofs.Loop.{During, begins, turn, ends}
-use Rattle.fips197.specs.Cipher.{invSecondHalf}
+use Rattle.aes_steps.specs.Schedule.{invSecondHalfBy}
 use Rattle.aes_arithmetic.proofs.group.middletexts.Statement.{statement}
 use Rattle.aes_arithmetic.proofs.group.middletexts.Tie as tie
 
 abbrev Inv-loop : tie.InvT-loop
-Inv-loop group₀ n keys i₀ group i = (i ≤ n) × During i (λ j. invSecondHalf 5 10 (firstBlocks 11 keys) (blockAt group₀ j)) group₀ group
+Inv-loop group₀ n keys i₀ group i = (i ≤ n) × During i (λ j. invSecondHalfBy keys (blockAt group₀ j)) group₀ group
 
 abbrev μ-loop : tie.MeasureT-loop
 μ-loop group₀ n keys i₀ group i = n - i
@@ -44,11 +43,11 @@ loop-again : tie.Need-loop-again Inv-loop μ-loop
 loop-again c =
     let l = c .before .before .before .before .before .before .before .before in
     let i = l .loop .i in
-    let ks = firstBlocks 11 (l .before .args .keys .now) in (
+    let w = l .before .args .keys .now in (
       search needs,
       turn _ i _ (l .loop .group) (c .put .last .0) _ (l .loop .inv .1) (c .put .ensures)
           (c .before .before .from-bytes .ensures ∙ c .before .before .before .inv-second-half .ensures
-          ∙ ap (invSecondHalf 5 10 ks) (c .before .before .before .before .to-bytes .ensures ∙ c .before .before .before .before .before .get .ensures ∙ l .loop .inv .1 .rest i (omega arith))),
+          ∙ ap (invSecondHalfBy w) (c .before .before .before .before .to-bytes .ensures ∙ c .before .before .before .before .before .get .ensures ∙ l .loop .inv .1 .rest i (omega arith))),
     )
 
 returns : tie.Need-returns Inv-loop μ-loop

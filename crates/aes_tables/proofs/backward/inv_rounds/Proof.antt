@@ -1,18 +1,18 @@
 -- What is left to undo from here is what there was to undo from the start.
 use borrow.Author.Needs.{needs}
 use mathlib.Core.Path.{_≡_, refl, sym, _∙_}
-use Prim.Native.Nat.{_≤_}
+use Prim.Native.Nat.{_+_, _≤_}
 use native.Mathlib.Omega.{arith}
 use lib.Seq.{slice}
-use Rattle.blocks.specs.Bytes.{firstBlocks}
 use Rattle.blocks.proofs.Chunks.{length-blocks}
 use Rattle.fips197.specs.Cipher.{invRounds}
+use Rattle.aes_steps.specs.Schedule.{roundsIn, roundKeysIn}
 use Rattle.fips197.proofs.Rounds.{invRounds-turn, invRounds-end}
 use Rattle.aes_tables.proofs.backward.inv_rounds.Statement.{statement}
 use Rattle.aes_tables.proofs.backward.inv_rounds.Tie as tie
 
 abbrev Inv-loop : tie.InvT-loop
-Inv-loop keys from to inv-sbox t₀ i₀ t i = (from ≤ i) × (i ≤ to) × (invRounds (slice from i (firstBlocks 11 keys)) t ≡ invRounds (slice from to (firstBlocks 11 keys)) t₀)
+Inv-loop keys from to inv-sbox t₀ i₀ t i = (from ≤ i) × (i ≤ to) × (invRounds (slice from i (roundKeysIn keys)) t ≡ invRounds (slice from to (roundKeysIn keys)) t₀)
 
 abbrev μ-loop : tie.MeasureT-loop
 μ-loop keys from to inv-sbox t₀ i₀ t i = i
@@ -33,11 +33,11 @@ loop-again : tie.Need-loop-again Inv-loop μ-loop
 loop-again c =
     let l = c .before .before in
     let a = l .before .args in
-    let e : a .to ≤ 11 = search needs in
-    let h : l .loop .i ≤ 11 = omega (arith, l .loop .inv .1) in (
+    let e : a .to ≤ roundsIn (a .keys .now) + 1 = search needs in
+    let h : l .loop .i ≤ roundsIn (a .keys .now) + 1 = omega (arith, l .loop .inv .1) in (
       search needs,
       search needs,
-      invRounds-turn (firstBlocks 11 (a .keys .now)) (a .from) (l .loop .i) (l .loop .t) (c .inv-round .result) (c .before .loop-test .taken) (rw (length-blocks 11 (a .keys .now)) h)
+      invRounds-turn (roundKeysIn (a .keys .now)) (a .from) (l .loop .i) (l .loop .t) (c .inv-round .result) (c .before .loop-test .taken) (rw (length-blocks (roundsIn (a .keys .now) + 1) (a .keys .now)) h)
           (c .inv-round .ensures)
           ∙ l .loop .inv .2,
     )
@@ -46,7 +46,7 @@ returns : tie.Need-returns Inv-loop μ-loop
 returns c =
     let l = c .before in
     let a = l .before .args in
-    sym (invRounds-end (firstBlocks 11 (a .keys .now)) (a .from) (l .loop .i) (l .loop .t) (l .loop .inv .0) (c .loop-test .left)) ∙ l .loop .inv .2
+    sym (invRounds-end (roundKeysIn (a .keys .now)) (a .from) (l .loop .i) (l .loop .t) (l .loop .inv .0) (c .loop-test .left)) ∙ l .loop .inv .2
 
 pub inv-rounds-spec : {M : Type 1} → statement M
 inv-rounds-spec =

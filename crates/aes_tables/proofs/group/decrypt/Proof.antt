@@ -1,11 +1,10 @@
 -- The second half undone, loaded, the first undone, loaded again.
 use borrow.Author.Needs.{needs}
-use Rattle.blocks.specs.Bytes.{firstBlocks}
 use Rattle.groups.specs.Group.{blockAt}
 use Rattle.groups.proofs.Front.{front-blocks}
 use Rattle.groups.proofs.Loop.{holds-as}
-use Rattle.fips197.specs.Cipher.{invSecondHalf}
-use Rattle.fips197.proofs.Lengths.{length-invSecondHalf}
+use Rattle.aes_steps.specs.Schedule.{invSecondHalfBy}
+use Rattle.aes_steps.proofs.Halves.{length-invSecondHalfBy}
 use Rattle.aes_tables.specs.Half.{halfOf, tabled}
 use Rattle.aes_tables.specs.declared.group.Half.the-variants.{InvFirst}
 use Rattle.aes_tables.proofs.Lookup.{invSbox-table}
@@ -45,9 +44,9 @@ returns c =
     let a = s .args in
     let keys = a .keys .now in
     let g = blockAt (a .group .now) in
-    let long = length-invSecondHalf 5 10 (firstBlocks 11 keys) in
-    let one = front-blocks (a .n) (λ i. invSecondHalf 5 10 (firstBlocks 11 keys) (g i)) _ _ (λ j l. long (g j)) (c .before .before .before .before .before .before .before .before .before .before .undo-second .ensures) in
-    let other = halved keys (s .pre .1 .1 .1) InvFirst (a .n) (λ i. invSecondHalf 5 10 (firstBlocks 11 keys) (g i)) _ _ (λ i. long (g i)) one (c .before .before .before .before .each .ensures) in
+    let long = length-invSecondHalfBy keys in
+    let one = front-blocks (a .n) (λ i. invSecondHalfBy keys (g i)) _ _ (λ j l. long (g j)) (c .before .before .before .before .before .before .before .before .before .before .undo-second .ensures) in
+    let other = halved keys (s .pre .1 .1 .1) InvFirst (a .n) (λ i. invSecondHalfBy keys (g i)) _ _ (λ i. long (g i)) one (c .before .before .before .before .each .ensures) in
     (holds-as _ _ _ _ (c .before .before .before .before .before .before .load .ensures) one, holds-as _ _ _ _ (c .load2 .ensures) other)
 
 pub decrypt-spec : {M : Type 1} → statement M

@@ -6,9 +6,9 @@ use Prim.Native.Nat.{ℕ, _-_, _*_, _≤_, _<_}
 use native.Mathlib.Omega.{arith}
 use lib.ListN.{length, take, drop, length-drop}
 use lib.Seq.{length-take-le}
-use Rattle.blocks.specs.Bytes.{firstBlocks}
 use Rattle.groups.specs.Group.{blockOf}
 use Rattle.groups.proofs.Front.{Front, front-begins, front-rest, front-long, front-turn, front-ends}
+use Rattle.aes_steps.specs.Schedule.{Schedule}
 use Rattle.aes_tables.specs.Half.{halfOf}
 use Rattle.aes_tables.specs.declared.group.Half.{Half}
 use Rattle.aes_tables.proofs.Halves.{length-half}
@@ -16,7 +16,7 @@ use Rattle.aes_tables.proofs.group.each.Statement.{statement}
 use Rattle.aes_tables.proofs.group.each.Tie as tie
 
 abbrev half : Half → List ℕ → List ℕ → ℕ → List ℕ
-half which keys text i = halfOf which (firstBlocks 11 keys) (blockOf text i)
+half which keys text i = halfOf which keys (blockOf text i)
 
 abbrev Inv-loop : tie.InvT-loop
 Inv-loop which text₀ n keys table i₀ text i = (i ≤ n) × Front 16 (half which keys text₀) i text₀ text
@@ -25,11 +25,11 @@ abbrev μ-loop : tie.MeasureT-loop
 μ-loop which text₀ n keys table i₀ text i = n - i
 
 -- each half has 16 bytes
-module _ (which : Half) (keys text : List ℕ) (n : ℕ) (long : length keys ≡ 176) (room : n * 16 ≤ length text) where
+module _ (which : Half) (keys text : List ℕ) (n : ℕ) (schedule : Schedule keys) (room : n * 16 ≤ length text) where
   halves-long : (i : ℕ) → i ≤ n → (j : ℕ) → j < i → length (half which keys text j) ≡ 16
   unfolding blockOf
   halves-long i h j l =
-      length-half keys long which (take 16 (drop (j * 16) text)) (length-take-le 16 (drop (j * 16) text) (omega (arith, length-drop (j * 16) text)))
+      length-half keys schedule which (take 16 (drop (j * 16) text)) (length-take-le 16 (drop (j * 16) text) (omega (arith, length-drop (j * 16) text)))
 
 long-text : (c : tie.At-loop Inv-loop μ-loop) → length (c .loop .text) ≡ length (c .before .before .args .text .now)
 long-text c =
@@ -66,7 +66,7 @@ loop-again c =
     let b = half (a .which) (a .keys .now) old in
     let long = halves-long (a .which) (a .keys .now) old (a .n) (s .pre .1 .0) (s .pre .0) i (l .loop .inv .0) in (
       search needs,
-      front-turn 16 b i old (l .loop .text) long (l .loop .inv .1) _ _ (ap (λ (x : List ℕ). halfOf (a .which) (firstBlocks 11 (a .keys .now)) (take 16 x)) (front-rest 16 b i old (l .loop .text) long (l .loop .inv .1))) (c .before .before .one .ensures),
+      front-turn 16 b i old (l .loop .text) long (l .loop .inv .1) _ _ (ap (λ (x : List ℕ). halfOf (a .which) (a .keys .now) (take 16 x)) (front-rest 16 b i old (l .loop .text) long (l .loop .inv .1))) (c .before .before .one .ensures),
     )
 
 same-length : tie.Need-same-length Inv-loop μ-loop

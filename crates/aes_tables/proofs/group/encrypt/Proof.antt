@@ -1,6 +1,5 @@
 -- Stored, halved, loaded, halved again, loaded again.
 use borrow.Author.Needs.{needs}
-use Rattle.blocks.specs.Bytes.{firstBlocks}
 use Rattle.groups.specs.Group.{blockAt}
 use Rattle.groups.proofs.Front.{length-blockAt, front-blocks}
 use Rattle.groups.proofs.Loop.{holds-as}
@@ -54,7 +53,7 @@ returns c =
     let gs = length-blockAt (a .group .now) in
     let stored = front-blocks (a .n) g _ _ (λ j l. gs j) (c .before .before .before .before .before .before .before .before .before .before .before .before .before .store .ensures) in
     let one = halved keys long First (a .n) g _ _ gs stored (c .before .before .before .before .before .before .before .before .before .before .each .ensures) in
-    let other = halved keys long Second (a .n) (λ i. halfOf First (firstBlocks 11 keys) (g i)) _ _ (λ i. length-half keys long First (g i) (gs i)) one (c .before .before .before .before .each2 .ensures) in
+    let other = halved keys long Second (a .n) (λ i. halfOf First keys (g i)) _ _ (λ i. length-half keys long First (g i) (gs i)) one (c .before .before .before .before .each2 .ensures) in
     (holds-as _ _ _ _ (c .before .before .before .before .before .before .load .ensures) one, holds-as _ _ _ _ (c .load2 .ensures) other)
 
 pub encrypt-spec : {M : Type 1} → statement M

@@ -5,16 +5,15 @@ use mathlib.Core.List.{List}
 use Prim.Native.Nat.{ℕ, _-_, _≤_}
 use native.Mathlib.Omega.{arith}
 use lib.ListN.{length}
-use Rattle.blocks.specs.Bytes.{firstBlocks}
 use Rattle.groups.specs.Group.{blockAt}
 use Rattle.groups.proofs.Front.{Front, front-begins, front-long, front-turn, front-ends}
-use Rattle.fips197.specs.Cipher.{invSecondHalf}
-use Rattle.fips197.proofs.Lengths.{length-invSecondHalf}
+use Rattle.aes_steps.specs.Schedule.{invSecondHalfBy}
+use Rattle.aes_steps.proofs.Halves.{length-invSecondHalfBy}
 use Rattle.aes_tables.proofs.group.undo_second.Statement.{statement}
 use Rattle.aes_tables.proofs.group.undo_second.Tie as tie
 
 abbrev undone : List ℕ → List ℕ → ℕ → List ℕ
-undone keys group i = invSecondHalf 5 10 (firstBlocks 11 keys) (blockAt group i)
+undone keys group i = invSecondHalfBy keys (blockAt group i)
 
 abbrev Inv-loop : tie.InvT-loop
 Inv-loop group n keys inv-sbox text₀ i₀ text i = (i ≤ n) × Front 16 (undone keys group) i text₀ text
@@ -25,7 +24,7 @@ abbrev μ-loop : tie.MeasureT-loop
 long-text : (c : tie.At-loop Inv-loop μ-loop) → length (c .loop .text) ≡ length (c .before .before .args .text .now)
 long-text c =
     let s = c .before .before in
-    front-long 16 (undone (s .args .keys .now) (s .args .group .now)) (c .loop .i) (s .args .text .now) (c .loop .text) (λ j h. length-invSecondHalf 5 10 _ _) (c .loop .inv .1) (omega (arith, s .pre .1 .1 .1, c .loop .inv .0))
+    front-long 16 (undone (s .args .keys .now) (s .args .group .now)) (c .loop .i) (s .args .text .now) (c .loop .text) (λ j h. length-invSecondHalfBy _ _) (c .loop .inv .1) (omega (arith, s .pre .1 .1 .1, c .loop .inv .0))
 
 loop-holds : tie.Need-loop-holds Inv-loop μ-loop
 loop-holds c = (search needs, front-begins 16 _ _)
@@ -57,8 +56,8 @@ loop-again c =
     let a = l .before .before .args in
     let b = undone (a .keys .now) (a .group .now) in (
       search needs,
-      front-turn 16 b (l .loop .i) (a .text .now) (l .loop .text) (λ j h. length-invSecondHalf 5 10 _ _) (l .loop .inv .1) _ _
-          (c .before .before .before .before .inv-second-half .ensures ∙ ap (invSecondHalf 5 10 (firstBlocks 11 (a .keys .now))) (c .before .before .before .before .before .to-bytes .ensures ∙ c .before .before .before .before .before .before .get .ensures)) (c .before .before .store .ensures),
+      front-turn 16 b (l .loop .i) (a .text .now) (l .loop .text) (λ j h. length-invSecondHalfBy _ _) (l .loop .inv .1) _ _
+          (c .before .before .before .before .inv-second-half .ensures ∙ ap (invSecondHalfBy (a .keys .now)) (c .before .before .before .before .before .to-bytes .ensures ∙ c .before .before .before .before .before .before .get .ensures)) (c .before .before .store .ensures),
     )
 
 same-length : tie.Need-same-length Inv-loop μ-loop
