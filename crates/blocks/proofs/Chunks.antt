@@ -6,7 +6,7 @@ use native.Mathlib.Nat.{suc-mul, add-comm, not-suc-le-zero, le-of-suc-le-suc}
 use native.Mathlib.Omega.{arith}
 use lib.Dec.{lit<}
 use lib.ListN.{length, getD, take, drop, length-take, length-drop}
-use lib.Seq.{slice, take-at, drop-at, take-add, drop-drop, getD-take, getD-drop}
+use lib.Seq.{slice, take-append-le, drop-append-le, take-at, drop-at, take-add, drop-drop, getD-take, getD-drop}
 use Rattle.blocks.specs.Bytes.{Bytes, Block, Blocks, none, more, firstBlocks, concat}
 
 pub length-blocks : (n : ℕ) (a : List ℕ) → length (firstBlocks n a) ≡ n
@@ -86,3 +86,12 @@ concat-blocks zero a = refl
 concat-blocks (suc n) a =
     ap (λ (x : List ℕ). take 16 a ++ x) (concat-blocks n (drop 16 a)) ∙ sym (take-add 16 (n * 16) a)
     ∙ ap (λ (k : ℕ). take k a) (add-comm 16 (n * 16) ∙ sym (suc-mul n 16))
+
+-- the blocks in front of what follows them
+pub blocks-front : (n : ℕ) (a b : List ℕ) → n * 16 ≤ length a → firstBlocks n (a ++ b) ≡ firstBlocks n a
+unfolding firstBlocks
+blocks-front zero a b h = refl
+blocks-front (suc n) a b h =
+    let e : suc n * 16 ≡ n * 16 + 16 = suc-mul n 16 in
+    ap₂ (λ (x : List ℕ) (y : List (List ℕ)). x ∷ y) (take-append-le 16 a b (omega arith))
+    (ap (firstBlocks n) (drop-append-le 16 a b (omega arith)) ∙ blocks-front n (drop 16 a) b (rw length-drop (omega arith)))

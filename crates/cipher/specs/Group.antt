@@ -2,7 +2,7 @@
 -- that an engine may work on all 32.
 use mathlib.Core.List.{List}
 use Prim.Native.Nat.{ℕ}
-use Rattle.fips197.specs.Aes128.{firstHalf, invSecondHalf, encrypt, decrypt}
+use Rattle.fips197.specs.Aes.{firstHalf, invSecondHalf, encrypt, decrypt}
 use Rattle.groups.specs.Group.{blockAt, Holds}
 
 -- n blocks enciphered, and their middletexts

@@ -2,13 +2,14 @@
 ghost use mathlib.Core.Path.{_≡_};
 ghost use Prim.Native.Nat.{_≤_};
 ghost use lib.ListN.{length};
-ghost use Rattle.fips197.specs.Aes128.{encrypt as encryptOf, decrypt as decryptOf};
+ghost use Rattle.fips197.specs.Aes.{KeyLength, encrypt as encryptOf, decrypt as decryptOf};
 ghost use Rattle.cipher.specs.Keys.{keyOf, Expanded, Expands};
 ghost use Rattle.cipher.specs.Group.{Enciphered, Deciphered, Middletexts};
 
-// The key schedule of a key.
-pub fn expand(engine: u8, key: [u8; 16]) -> [u8; crate::KEYS]
-    ensures { λ r. ⌜ Expands key r ⌝ }
+// The key schedule of a key of 16 or 32 bytes.
+pub fn expand(engine: u8, key: &[u8]) -> [u8; crate::KEYS]
+    requires { ⌜ KeyLength (now key) ⌝ }
+    ensures { λ r. ⌜ Expands (now (key .entry)) r ⌝ }
 {
     match engine {
         crate::ARITHMETIC => aes_arithmetic::key::expand(key),

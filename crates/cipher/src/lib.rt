@@ -1,9 +1,9 @@
-// AES-128 as the mode takes it: a key schedule, one block, a group of blocks. Which engine does the work shows nowhere above this crate: its
+// AES-128 and AES-256 as the mode takes them: a key schedule, one block, a group of blocks. Which engine does the work shows nowhere above this crate: its
 // contracts speak of FIPS 197 alone.
 ghost use mathlib.Core.Path.{_≡_};
 ghost use Prim.Native.Nat.{_≤_};
-ghost use lib.ListN.{length};
-ghost use Rattle.fips197.specs.Aes128.{encrypt as encryptOf, decrypt as decryptOf};
+ghost use lib.ListN.{length, take};
+ghost use Rattle.fips197.specs.Aes.{KeyLength, encrypt as encryptOf, decrypt as decryptOf};
 ghost use Rattle.cipher.specs.Keys.{keyOf, Expanded, Expands};
 ghost use Rattle.cipher.specs.Group.{Enciphered, Deciphered, Middletexts};
 
@@ -18,20 +18,21 @@ pub const ARITHMETIC: u8 = 1;
 // THE ENGINE that everything above runs on.
 pub const ENGINE: u8 = TABLES;
 
-// The bytes of a key schedule.
-pub const KEYS: usize = 176;
+// The bytes of a key schedule: up to fifteen round keys, and the number of rounds.
+pub const KEYS: usize = aes_steps::schedule::BYTES;
 
-// The key schedule of a key.
-pub fn expand(key: [u8; 16]) -> [u8; KEYS]
-    ensures { λ r. ⌜ Expands key r ⌝ }
+// The key schedule of a key of 16 or 32 bytes.
+pub fn expand(key: &[u8]) -> [u8; KEYS]
+    requires { ⌜ KeyLength (now key) ⌝ }
+    ensures { λ r. ⌜ Expands (now (key .entry)) r ⌝ }
 {
     by::expand(ENGINE, key)
 }
 
-// The key of a schedule.
-pub fn key_of(keys: &[u8; KEYS]) -> [u8; 16]
+// The first 16 bytes of a schedule's key.
+pub fn key_block(keys: &[u8; KEYS]) -> [u8; 16]
     requires { ⌜ Expanded (now keys) ⌝ }
-    ensures { λ r. ⌜ r ≡ keyOf (now (keys .entry)) ⌝ }
+    ensures { λ r. ⌜ r ≡ take 16 (keyOf (now (keys .entry))) ⌝ }
 {
     blocks::block::load(keys, 0)
 }
