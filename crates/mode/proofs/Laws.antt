@@ -12,7 +12,6 @@ use Rattle.gf128.specs.Gf128.{timesX, jump, carry, shiftLeft, reduction}
 use Rattle.gf128.proofs.TimesX.{length-timesX, length-jump, jump-xor, jump-add}
 use Rattle.fips197.specs.Aes.{KeyLength}
 use Rattle.mode.specs.Mode.{Cipher, Lawful, Source, plaintext, ciphertext, zeroBlock, keyBlock, encrypt, startMask, middletext, written, pass, unbroken}
-
 use Rattle.mode.proofs.Keys.{keyBlock-long}
 
 abbrev pub AllLong : List (List ℕ) → Type 0
