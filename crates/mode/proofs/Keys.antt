@@ -21,6 +21,15 @@ at-least-16 key (long e) = omega arith
 
 -- ---- the block that is lent
 
+-- a key of 16 bytes lends itself, and one of 32 its first 16
+pub keyBlock-first : (a b : List ℕ) → length a ≡ 16 → keyBlock (a ++ b) ≡ a
+unfolding keyBlock
+keyBlock-first a b e = take-at a b 16 e
+
+pub keyBlock-short : (key : List ℕ) → length key ≡ 16 → keyBlock key ≡ key
+unfolding keyBlock
+keyBlock-short key e = take-all 16 key (omega arith)
+
 pub keyBlock-long : (key : List ℕ) → KeyLength key → length (keyBlock key) ≡ 16
 unfolding keyBlock
 keyBlock-long key h = length-take-le 16 key (at-least-16 key h)
@@ -29,16 +38,7 @@ pub block-keyBlock : (key : List ℕ) → Key key → Block (keyBlock key)
 unfolding keyBlock
 block-keyBlock key h = record { long = keyBlock-long key (h .size); bytes = bytes-take 16 key (h .bytes) }
 
--- a key of 16 bytes lends itself, and one of 32 its first 16
-pub keyBlock-short : (key : List ℕ) → length key ≡ 16 → keyBlock key ≡ key
-unfolding keyBlock
-keyBlock-short key e = take-all 16 key (omega arith)
-
-pub keyBlock-first : (a b : List ℕ) → length a ≡ 16 → keyBlock (a ++ b) ≡ a
-unfolding keyBlock
-keyBlock-first a b e = take-at a b 16 e
-
--- and it is that which step 1 adds, or that replaces its sum
+-- it is what step 1 adds, and what replaces a sum of zero
 pub key-in-step-one : (c : Cipher) → KeyInStepOne c
 unfolding startMask
 key-in-step-one c =
