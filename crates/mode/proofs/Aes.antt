@@ -2,7 +2,6 @@
 use mathlib.Core.Path.{subst}
 use mathlib.Core.List.{List}
 use Prim.Native.Nat.{ℕ, _+_, _/_}
-use lib.ListN.{length}
 use Rattle.fips197.proofs.Aes.{block-first, block-second, block-invFirst, block-invSecond, first-undone, first-redone, second-undone, second-redone, encrypt-halves, decrypt-halves, first-after}
 use Rattle.fips197.specs.Aes.{nkOf, nrOf}
 use Rattle.fips197.specs.Aes as Aes

@@ -1,13 +1,13 @@
 -- Keys of 16 and 32 bytes: the block that one lends to step 1, and row 1 of the table.
-use mathlib.Core.Path.{_≡_, refl, sym, ap, _∙_}
+use mathlib.Core.Path.{_≡_, refl, ap}
 use mathlib.Core.Bool.{Bool, true, false, not, _||_}
 use mathlib.Core.List.{List, _++_}
 use Prim.Native.Nat.{ℕ, _≤_}
 use native.Mathlib.Omega.{arith}
 use lib.Dec.{eqb}
-use lib.ListN.{length, take}
+use lib.ListN.{length}
 use lib.Seq.{length-take-le, take-all, take-at}
-use borrow.Author.Tests.{eq-eqb, ne-eqb, eqb-true}
+use borrow.Author.Tests.{ne-eqb, eqb-true}
 use Rattle.blocks.specs.Bytes.{Block}
 use Rattle.blocks.proofs.Chunks.{bytes-take}
 use Rattle.fips197.specs.Aes.{KeyLength, short, long, Key}
@@ -47,7 +47,7 @@ key-in-step-one c =
       of-32 = λ a b iv ha hb. ap (λ (k : List ℕ). startMaskBy c (a ++ b) k iv) (keyBlock-first a b ha);
     }
 
--- ---- row 1 holds of every other length, and of no other
+-- ---- row 1 holds exactly where a key has neither length
 
 pub is-key : (key : List ℕ) → KeyLength key → notKey key ≡ false
 unfolding notKey

@@ -1,7 +1,7 @@
 -- What the demands may not lose: whatever sealing and opening take may be cut, at every block; every call that document 01 allows is allowed, at
--- every place; no pair is left out but one for each key that lends zeros, every call refuses that one, and its row is all that is new; keys have 16 bytes
--- or 32; jumps go both ways up to the limit; the table's
--- order is document 01's, and no other order passes for it; every record in words is joined and closed as its bytes are.
+-- every place; no pair is left out but one for each key that lends zeros, every call refuses that one, and its row is all that is new; keys
+-- have 16 bytes or 32; jumps go both ways up to the limit; the table's order is document 01's, and no other order passes for it; every record
+-- in words is joined and closed as its bytes are.
 use mathlib.Core.Path.{_≡_, refl, sym, ap, ap₂, subst, _∙_}
 use mathlib.Core.Logic.{_⊎_, inl, inr, _↔_}
 use mathlib.Core.List.{List, [], _∷_, _++_}

@@ -103,7 +103,7 @@ pub replaced-formed : WellFormed replaced
 unfolding computed
 replaced-formed = record { key-is = aKey-is; iv-bytes = bytes-by aKey tt; text-bytes = bytes-by [] tt; fits = (refl, lit≤ tt); cut = tt; pieces-are = refl }
 
--- the same under a key of 32 bytes, with the IV that its last 16 add up to zero
+-- a key of 32 bytes under the IV that is its last 16: step 1 comes to zero again, and the first 16 are the start mask
 abbrev pub longReplaced : Setting
 longReplaced = record { key = aLongKey; work = sealing (replicate 16 9) []; pieces = [] ∷ [] }
 
