@@ -29,7 +29,7 @@ pub bytes-right : (a b : List ℕ) → Bytes (a ++ b) → Bytes b
 bytes-right [] b h i = h i
 bytes-right (x ∷ a) b h i = bytes-right a b (λ i. h (suc i)) i
 
-pub bytes-zeros : (n : ℕ) → Bytes (replicate n 0)
+bytes-zeros : (n : ℕ) → Bytes (replicate n 0)
 bytes-zeros zero i = lit< tt
 bytes-zeros (suc n) zero = lit< tt
 bytes-zeros (suc n) (suc i) = bytes-zeros n i

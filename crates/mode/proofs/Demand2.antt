@@ -16,10 +16,12 @@ use Rattle.blocks.proofs.Chunks.{bytes-take, bytes-drop}
 use Rattle.blocks.proofs.XorBytes.{block-xor, xorBytes-cancel}
 use Rattle.gf128.specs.Gf128.{timesX, jump}
 use Rattle.gf128.proofs.TimesX.{length-jump, block-timesX}
+use Rattle.fips197.specs.Aes.{KeyLength, Key}
 use Rattle.mode.specs.Mode.{Cipher, Lawful, plaintext, ciphertext, zeroBlock, encrypt, startMask, middletext, written, pass, unbroken, tagFrom, unbrokenTag, blocksOf, padded, ivPart, cipherPart, tagPart, sealedRecord, UnbrokenCheck}
 use Rattle.mode.specs.Table.{Answer, refused, given, decide, NoneHolds, unaligned, tooLong, notSealed, zeroMask, longestMessage, longestSealed}
 use Rattle.mode.specs.Calls.{unpadded, notPadded, orEmpty, decrypted, plaintextOf, openRows, openSealed, seal, sealRows}
 use Rattle.mode.specs.Demands.{Gives, NonzeroMask, SealedFrom, Demand2a, Demand2b, OpensSealed, Demand2d}
+use Rattle.mode.proofs.Keys.{is-key}
 use Rattle.mode.proofs.Rows.{not-too-long}
 use Rattle.mode.proofs.Decisions.{given-rows, passed-rows, outcome-answer, outcome-gives, outcome-given-bytes}
 use Rattle.mode.proofs.SealedLength.{sealed-length}
@@ -34,7 +36,7 @@ use Rattle.mode.proofs.Bytes.{bytes-left, bytes-padded, AllBlocks, all-
 
 -- ---- blocks sealed and opened
 
-module _ (c : Cipher) (laws : Lawful c) (key : List ℕ) (kb : Block key) where
+module _ (c : Cipher) (laws : Lawful c) (key : List ℕ) (kb : Key key) where
   pub cipherBlock : List ℕ → List ℕ → List ℕ
   cipherBlock mask b = xorBytes (c .secondHalf key (c .firstHalf key (xorBytes b mask))) mask
 
@@ -146,18 +148,18 @@ module _ (c : Cipher) (laws : Lawful c) (key : List ℕ) (kb : Block key) where
     unfolding unbrokenTag unbroken
     same-tag bs h =
         ap₂ (tagFrom c key) (same-preauthenticator bs mask0 zeroBlock h (start-block c laws key kb iv ib))
-        (pass-mask c laws ciphertext key (kb .long) (sealedBlocks bs mask0) mask0 zeroBlock
+        (pass-mask c laws ciphertext key (kb .size) (sealedBlocks bs mask0) mask0 zeroBlock
         ∙ ap (λ (n : ℕ). jump n mask0) (length-sealed bs mask0)
-        ∙ sym (pass-mask c laws plaintext key (kb .long) bs mask0 zeroBlock))
+        ∙ sym (pass-mask c laws plaintext key (kb .size) bs mask0 zeroBlock))
 
     tag-long : (bs : List (List ℕ)) → AllBlocks bs → length (unbrokenTag c plaintext key iv bs) ≡ 16
     unfolding unbrokenTag unbroken tagFrom encrypt
     tag-long bs h =
-        let p : length ((pass c plaintext key bs mask0 zeroBlock) .preauthenticator) ≡ 16 = preauthenticator-long c laws plaintext key (kb .long) bs mask0 zeroBlock (all-blocks-long bs h) (start-block c laws key kb iv ib .long) refl in
-        let m : length ((pass c plaintext key bs mask0 zeroBlock) .mask) ≡ 16 = rw (pass-mask c laws plaintext key (kb .long) bs mask0 zeroBlock) (length-jump (length bs) mask0 (start-block c laws key kb iv ib .long)) in
+        let p : length ((pass c plaintext key bs mask0 zeroBlock) .preauthenticator) ≡ 16 = preauthenticator-long c laws plaintext key (kb .size) bs mask0 zeroBlock (all-blocks-long bs h) (start-block c laws key kb iv ib .long) refl in
+        let m : length ((pass c plaintext key bs mask0 zeroBlock) .mask) ≡ 16 = rw (pass-mask c laws plaintext key (kb .size) bs mask0 zeroBlock) (length-jump (length bs) mask0 (start-block c laws key kb iv ib .long)) in
         xor-long (encrypt c key (xorBytes ((pass c plaintext key bs mask0 zeroBlock) .preauthenticator) ((pass c plaintext key bs mask0 zeroBlock) .mask))) ((pass c plaintext key bs mask0 zeroBlock) .preauthenticator)
-        (laws .secondHalf-long key (c .firstHalf key (xorBytes ((pass c plaintext key bs mask0 zeroBlock) .preauthenticator) ((pass c plaintext key bs mask0 zeroBlock) .mask))) (kb .long)
-        (laws .firstHalf-long key (xorBytes ((pass c plaintext key bs mask0 zeroBlock) .preauthenticator) ((pass c plaintext key bs mask0 zeroBlock) .mask)) (kb .long)
+        (laws .secondHalf-long key (c .firstHalf key (xorBytes ((pass c plaintext key bs mask0 zeroBlock) .preauthenticator) ((pass c plaintext key bs mask0 zeroBlock) .mask))) (kb .size)
+        (laws .firstHalf-long key (xorBytes ((pass c plaintext key bs mask0 zeroBlock) .preauthenticator) ((pass c plaintext key bs mask0 zeroBlock) .mask)) (kb .size)
         (xor-long ((pass c plaintext key bs mask0 zeroBlock) .preauthenticator) ((pass c plaintext key bs mask0 zeroBlock) .mask) p m))) p
 
     unbroken-is : (bs : List (List ℕ)) → (unbroken c plaintext key iv bs) .output ≡ concat (sealedBlocks bs mask0)
@@ -200,20 +202,20 @@ pub message-fits : (message : List ℕ) → tooLong message ≡ false → length
 unfolding tooLong
 message-fits message e = ltb-false longestMessage (length message) e
 
-module _ (c : Cipher) (key iv message : List ℕ) (nz : NonzeroMask c key iv) (hk : length key ≡ 16) (hi : length iv ≡ 16) (hm : length message ≤ longestMessage) where
+module _ (c : Cipher) (key iv message : List ℕ) (nz : NonzeroMask c key iv) (hk : KeyLength key) (hi : length iv ≡ 16) (hm : length message ≤ longestMessage) where
   seal-gives : (room : ℕ) → length (sealedRecord c key iv message) ≤ room
       → Gives (seal c key iv message room) (sealedRecord c key iv message) (sealedRecord c key iv message) room
   unfolding seal
   seal-gives room hr =
       let s = sealedRecord c key iv message in
       outcome-gives (decide (sealRows c key iv message room) s) s s room
-      (passed-rows (sealRows c key iv message room) s (is16 key hk, (is16 iv hi, (not-too-long message hm, (nz, (le-ltb room (length s) hr, tt))))))
+      (passed-rows (sealRows c key iv message room) s (is-key key hk, (is16 iv hi, (not-too-long message hm, (nz, (le-ltb room (length s) hr, tt))))))
 
   -- with room for the record that the formulas give
   seals-to : (r : List ℕ) → sealedRecord c key iv message ≡ r → (seal c key iv message (length r)) .answer ≡ given r
   seals-to r e = (seal-gives (length r) (le-of-eq (ap length e))) .answers ∙ ap (λ (x : List ℕ). given x) e
 
-module _ (c : Cipher) (laws : Lawful c) (key : List ℕ) (kb : Block key) where
+module _ (c : Cipher) (laws : Lawful c) (key : List ℕ) (kb : Key key) where
   -- a message that is opened was sealed
   open-sound : (sealed m : List ℕ) (room : ℕ) → Bytes sealed → (openSealed c key sealed room) .answer ≡ given m → SealedFrom c key sealed m
   unfolding openSealed openRows
@@ -222,7 +224,7 @@ module _ (c : Cipher) (laws : Lawful c) (key : List ℕ) (kb : Block key) where
         iv = iv;
         iv-block = ib;
         m-bytes = bytes-left-of (subst Bytes (sym padded-is) (bytes-concat bs bs-good));
-        seals = seals-to c key iv m (rows .0 .1 .1 .0) (kb .long) (ib .long) m-fits sealed whole;
+        seals = seals-to c key iv m (rows .0 .1 .1 .0) (kb .size) (ib .long) m-fits sealed whole;
       }
     where
       rows : NoneHolds (openRows c key sealed room) × (orEmpty (unpadded (plaintextOf c key sealed)) ≡ m)
@@ -387,7 +389,7 @@ module _ (c : Cipher) (laws : Lawful c) (key : List ℕ) (kb : Block key) where
           (outcome-answer (decide (openRows c key r room) (orEmpty (unpadded (plaintextOf c key r)))) _ room
           ∙ passed-rows (openRows c key r room) (orEmpty (unpadded (plaintextOf c key r)))
           (unfold openRows notPadded in
-          (is16 key (kb .long), (fine, (masked, (le-ltb room (length (cipherPart r)) h, (ap not tag-same, (ap notPadded message-is, tt)))))))
+          (is-key key (kb .size), (fine, (masked, (le-ltb room (length (cipherPart r)) h, (ap not tag-same, (ap notPadded message-is, tt)))))))
           ∙ ap (λ (o : Option (List ℕ)). given (orEmpty o)) message-is)
 
 -- DEMAND 2 (a)
@@ -416,13 +418,13 @@ demand2b c laws =
 pub opens-sealed : (c : Cipher) → Lawful c → OpensSealed c
 opens-sealed c laws key iv message r room lent kb ib mb e h =
     let g = sealing-given c key iv message r room e in
-    let n : length r ≡ 16 * (length message / 16 + 1) + 32 = ap length (sym (g .1)) ∙ (demand2a c laws) .long key iv message (kb .long) (ib .long) in
+    let n : length r ≡ 16 * (length message / 16 + 1) + 32 = ap length (sym (g .1)) ∙ (demand2a c laws) .long key iv message (kb .size) (ib .long) in
     demand2b c laws .all-sealed key r message lent kb (rw (cipher-length r (omega arith)) h)
     (record {
       iv = iv;
       iv-block = ib;
       m-bytes = mb;
-      seals = seals-to c key iv message (g .0 .1 .1 .1 .0) (kb .long) (ib .long) (message-fits message (g .0 .1 .1 .0)) r (g .1);
+      seals = seals-to c key iv message (g .0 .1 .1 .1 .0) (kb .size) (ib .long) (message-fits message (g .0 .1 .1 .0)) r (g .1);
     })
 
 -- DEMAND 2 (d)
@@ -444,7 +446,7 @@ demand2d c key sealed nz kl ns = (to, from)
 
     -- rows 1, 3, 10 and 5 do not hold
     rest : decide (openRows c key sealed room) m ≡ decide ((6, not (same tag (tagPart sealed))) ∷ (7, notPadded (unpadded (plaintextOf c key sealed))) ∷ []) m
-    rest = unfold openRows decide in rw (is16 key kl, ns, nz, le-ltb room room (omega arith))
+    rest = unfold openRows decide in rw (is-key key kl, ns, nz, le-ltb room room (omega arith))
 
     to : tag ≡ tagPart sealed
         → ((m : List ℕ) × ((openSealed c key sealed room) .answer ≡ given m)) ⊎ ((openSealed c key sealed room) .answer ≡ refused 7)

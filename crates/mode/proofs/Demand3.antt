@@ -16,6 +16,7 @@ use Rattle.mode.specs.Table.{Answer, refused, given, decide, beyond, any
 use Rattle.mode.specs.Calls.{Kind, middle, last, blocksOfRun, unalignedRun, Outcome, outcomeBy, joinedOnto, joinedAll, joinTwo, joinList, closingTag, close, test, callsOf}
 use Rattle.mode.specs.Parallel.{Work, sealing, checking, sourceOf, ivOf, textOf, lastKind, allBlocks, Fits, Cut, Setting, WellFormed, Run, runsFrom, Segment, pending, recorded, blocksOfRuns, runsIn, recordIn, bytesIn, isRecorded, runsOf, bytesOfSegments, blocksIn, noSegment, segment, Call, runAt, joinPair, joinMany, consecutive, AllRecorded, recordsAt, Allowed, mergeBy, recordBy, headOr, firstRun, empties, start, roomOf, outcomeOfRun, runOutcome, answerOf, after, afterAll, EachCall}
 use Rattle.mode.specs.Demands.{NonzeroMask, whole, wholeTag, recordOfSegments, ciphertextOfSegment, ExpectedOfRun, ExpectedOfJoin, Expected, TestedAs, Whole, Demand3}
+use Rattle.mode.proofs.Keys.{is-key}
 use Rattle.mode.proofs.Decisions.{outcome-gives, outcome-refuses}
 use Rattle.mode.proofs.Laws.{AllLong, mask-there}
 use Rattle.mode.proofs.Same.{same-true, same-self}
@@ -152,9 +153,6 @@ module _ (c : Cipher) (laws : Lawful c) (s : Setting) (wf : WellFormed s) where
         blocks-are = (unfold blocksIn allBlocks in (start-blocks (lastKind w) 0 (s .pieces) (wf .cut) ∙ ap (blocksOfRun (lastKind w)) (wf .pieces-are)));
       }
 
-  key-block : Block (s .key)
-  key-block = record { long = wf .key-long; bytes = wf .key-bytes }
-
   iv-block : Block (ivOf (s .work))
   iv-block = record { long = iv-long (s .work) (wf .fits); bytes = wf .iv-bytes }
 
@@ -177,7 +175,7 @@ module _ (c : Cipher) (laws : Lawful c) (s : Setting) (wf : WellFormed s) where
         (λ (bs : List (List ℕ)).
         take (16 * length (blocksIn (take 1 (drop i xs)))) (drop (16 * length (blocksIn (take i xs))) ((unbroken c (sourceOf w) key (ivOf w) bs) .output))
         ≡ outputOf c key w (blocksIn (take i xs)) (blocksIn (take 1 (drop i xs)))) e
-        (part c laws key (wf .key-long) w (wf .fits) (blocksIn (take i xs)) (blocksIn (take 1 (drop i xs))) (blocksIn (drop 1 (drop i xs)))
+        (part c laws key (wf .key-is .size) w (wf .fits) (blocksIn (take i xs)) (blocksIn (take 1 (drop i xs))) (blocksIn (drop 1 (drop i xs)))
         (subst AllLong (sym e) (all-blocks-long (allBlocks w) all-good)))
 
     blocks-one : (i : ℕ) → i < length xs → blocksIn (take 1 (drop i xs)) ≡ blocksOfRuns (runsIn (segment xs i))
@@ -197,7 +195,7 @@ module _ (c : Cipher) (laws : Lawful c) (s : Setting) (wf : WellFormed s) where
     unfolding runOutcome recordOfSegments firstRun runsIn
     run-is i room h e =
         ap (λ (x : Segment). outcomeOfRun (callsOf c) key w (firstRun (runsIn x)) room) is
-        ∙ run-outcome c laws key (wf .key-long) w (wf .fits) before r room good bound
+        ∙ run-outcome c laws key (wf .key-is .size) w (wf .fits) before r room good bound
         ∙ ap₂ (λ (o : List ℕ) (a : RunRecord). outcomeBy (cond (zeroMask c key (ivOf w)) (refused 10) (cond (leb (length o) (roomOf w room)) (given a) (refused 5))) o (roomOf w room))
         (ap (outputOf c key w before) (sym these) ∙ sym (ciphertext-there i)) (ap (recordFor c key w before) (sym these))
       where
@@ -292,7 +290,7 @@ module _ (c : Cipher) (laws : Lawful c) (s : Setting) (wf : WellFormed s) where
       none-beyond c key w xs (consecutive i (suc k)) (inv .sound) blocks-fit h,
       ap (apart inWords) (win .0) ∙ not-apart c key w (blocksIn (take i xs)) these these-sound (win .1),
       ap (joinedAll inWords) (win .0)
-          ∙ joined-all c laws key key-block w iv-block (wf .fits) (blocksIn (take i xs)) these (rw (win .2) (omega arith)) these-sound (win .1) these-good,
+          ∙ joined-all c laws key (wf .key-is) w iv-block (wf .fits) (blocksIn (take i xs)) these (rw (win .2) (omega arith)) these-sound (win .1) these-good,
     )
       where
         these : List Segment
@@ -338,7 +336,7 @@ module _ (c : Cipher) (laws : Lawful c) (s : Setting) (wf : WellFormed s) where
 
         new-sound : SoundAt c key w (blocksIn (take i xs)) new
         new-sound =
-            (refl, bytes-all c laws key key-block w iv-block (wf .fits) (blocksIn (take i xs)) (take (suc k) (drop i xs)) (inner .0) ((window xs i (suc k) h) .1))
+            (refl, bytes-all c laws key (wf .key-is) w iv-block (wf .fits) (blocksIn (take i xs)) (take (suc k) (drop i xs)) (inner .0) ((window xs i (suc k) h) .1))
 
         new-rest : Sound c key w (blocksIn (take i xs) ++ blocksOfRuns (runsIn new)) rest
         new-rest = inner .1
@@ -449,8 +447,8 @@ module _ (c : Cipher) (laws : Lawful c) (s : Setting) (wf : WellFormed s) where
   closing : closingTag inWords c key (ivOf w) (recordFor c key w [] (allBlocks w)) ≡ wholeTag c s
   unfolding closingTag wholeTag unbrokenTag recordOf unbroken pass
   closing =
-      ap₂ (tagFrom c key) (record-bytes c laws (sourceOf w) key key-block (ivOf w) iv-block [] (allBlocks w) all-good)
-      (sym (unfold unbroken in (mask-there c laws (sourceOf w) key (wf .key-long) (ivOf w) (iv-long w (wf .fits)) (allBlocks w))))
+      ap₂ (tagFrom c key) (record-bytes c laws (sourceOf w) key (wf .key-is) (ivOf w) iv-block [] (allBlocks w) all-good)
+      (sym (unfold unbroken in (mask-there c laws (sourceOf w) key (wf .key-is .size) (ivOf w) (iv-long w (wf .fits)) (allBlocks w))))
 
   not-part : notWhole inWords (recordFor c key w [] (allBlocks w)) ≡ false
   unfolding notWhole recordOf
@@ -463,7 +461,7 @@ module _ (c : Cipher) (laws : Lawful c) (s : Setting) (wf : WellFormed s) where
   closed : NonzeroMask c key (ivOf w) → close inWords c key (ivOf w) (recordFor c key w [] (allBlocks w)) ≡ given (wholeTag c s)
   unfolding close decide
   closed nz =
-      rw (is16 key (wf .key-long), is16 (ivOf w) (iv-long w (wf .fits)), not-beyond, not-part, nz) (ap (λ (t : List ℕ). given t) closing)
+      rw (is-key key (wf .key-is .size), is16 (ivOf w) (iv-long w (wf .fits)), not-beyond, not-part, nz) (ap (λ (t : List ℕ). given t) closing)
 
   -- a tag of 16 bytes passes exactly when it is the unbroken one
   tested : NonzeroMask c key (ivOf w) → (tag : List ℕ) → length tag ≡ 16 → (test inWords c key (ivOf w) (recordFor c key w [] (allBlocks w)) tag ≡ given tt) ↔ (wholeTag c s ≡ tag)
@@ -477,7 +475,7 @@ module _ (c : Cipher) (laws : Lawful c) (s : Setting) (wf : WellFormed s) where
           ≡ decide ((6, not (same (closingTag inWords c key (ivOf w) (recordFor c key w [] (allBlocks w))) tag)) ∷ []) tt
       rows =
           unfold test decide in
-          rw (is16 key (wf .key-long), is16 (ivOf w) (iv-long w (wf .fits)), is16 tag h, not-beyond, not-part, nz)
+          rw (is-key key (wf .key-is .size), is16 (ivOf w) (iv-long w (wf .fits)), is16 tag h, not-beyond, not-part, nz)
 
   tag-long : (sealed : List ℕ) → Fits (checking sealed) → length (tagPart sealed) ≡ 16
   unfolding Fits tagPart
@@ -494,7 +492,7 @@ module _ (c : Cipher) (laws : Lawful c) (s : Setting) (wf : WellFormed s) where
   single-whole : NonzeroMask c key (ivOf w) → (rs : List Run) (r : RunRecord) (bytes : List ℕ) → Inv c s (recorded rs r bytes ∷ []) → Whole c (callsOf c) s r bytes
   single-whole nz rs r bytes inv =
       record {
-        ciphertext-whole = inv .sound .0 .1 ∙ ap (outputOf c key w []) all ∙ sym (unfold whole in (unbroken-output c laws key (wf .key-long) w (wf .fits) (allBlocks w)));
+        ciphertext-whole = inv .sound .0 .1 ∙ ap (outputOf c key w []) all ∙ sym (unfold whole in (unbroken-output c laws key (wf .key-is .size) w (wf .fits) (allBlocks w)));
         closes-whole = rw is (closed nz);
         tests-whole = tested-as w (wf .fits) r (rw is (unfold wholeTag in (tested nz)));
       }

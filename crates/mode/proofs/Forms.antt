@@ -10,10 +10,12 @@ use Rattle.blocks.specs.Bytes.{Bytes, Block, xorBytes, same}
 use Rattle.blocks.proofs.Bridge.{block-bytesOf, proper-wordsOf, bytes-words, words-bytes}
 use Rattle.gf128.specs.Gf128.{jump}
 use Rattle.gf128.proofs.TimesX.{block-jump}
+use Rattle.fips197.specs.Aes.{Key}
 use Rattle.mode.specs.Mode.{Cipher, Lawful, Source, plaintext, ciphertext, Form, inWords, inBytes, zeroBlock, startMask, tagFrom}
-use Rattle.mode.specs.Table.{Answer, refused, given, decide, NoneHolds, not16, beyond, anyBeyond, apart, none, notWhole, zeroMask}
+use Rattle.mode.specs.Table.{Answer, refused, given, decide, NoneHolds, notKey, not16, beyond, anyBeyond, apart, none, notWhole, zeroMask}
 use Rattle.mode.specs.Calls.{outcomeBy, unalignedRun, Kind, middle, blocksOfRun, joined, joinedOnto, joinedAll, joinTwo, joinTwoRows, joinList, joinListRows, passFrom, runRecord, sealRun, sealRunRows, checkRun, checkRunRows, closingTag, close, test}
 use Rattle.mode.specs.Demands.{Formed, EachFormed, inForm, mapAnswer, mapOutcome, SameIn, WordsAsBytes}
+use Rattle.mode.proofs.Keys.{has-key}
 use Rattle.mode.proofs.Passed.{has-16}
 use Rattle.mode.proofs.Bytes.{run-blocks}
 use Rattle.mode.proofs.Halves.{start-block, preauthenticator-block}
@@ -45,7 +47,7 @@ map-outcome {A} {B} t (given a) y bytes room e = ap (λ (z : Answer B). outcomeB
 
 -- ---- the pre-authenticator of a run that is not refused is a block
 
-run-block : (c : Cipher) → Lawful c → (s : Source) (key iv : List ℕ) (first : ℕ) (kind : Kind) (bytes : List ℕ) → Block key → Block iv → Bytes bytes → unalignedRun kind bytes ≡ false
+run-block : (c : Cipher) → Lawful c → (s : Source) (key iv : List ℕ) (first : ℕ) (kind : Kind) (bytes : List ℕ) → Key key → Block iv → Bytes bytes → unalignedRun kind bytes ≡ false
     → Block ((passFrom c s key iv first (blocksOfRun kind bytes)) .preauthenticator)
 unfolding passFrom
 run-block c laws s key iv first kind bytes hk hv hb e =
@@ -157,7 +159,7 @@ module _ (f g : Form) (rf : Reads f) (rg : Reads g) where
     close-same = λ i. decide (closeRowsBy (beyond-same r i) (part-same r i)) (tag-same i)
       where
         closeRowsBy : Bool → Bool → List (ℕ × Bool)
-        closeRowsBy four nine = (1, not16 key) ∷ (2, not16 iv) ∷ (4, four) ∷ (9, nine) ∷ (10, zeroMask c key iv) ∷ []
+        closeRowsBy four nine = (1, notKey key) ∷ (2, not16 iv) ∷ (4, four) ∷ (9, nine) ∷ (10, zeroMask c key iv) ∷ []
 
     test-same : (tag : List ℕ) → test g c key iv (to r) tag ≡ test f c key iv r tag
     unfolding test
@@ -165,17 +167,17 @@ module _ (f g : Form) (rf : Reads f) (rg : Reads g) where
       where
         testRowsBy : Bool → Bool → List ℕ → List (ℕ × Bool)
         testRowsBy four nine t =
-            (1, not16 key) ∷ (2, not16 iv) ∷ (3, not16 tag) ∷ (4, four) ∷ (9, nine) ∷ (10, zeroMask c key iv) ∷ (6, not (same t tag)) ∷ []
+            (1, notKey key) ∷ (2, not16 iv) ∷ (3, not16 tag) ∷ (4, four) ∷ (9, nine) ∷ (10, zeroMask c key iv) ∷ (6, not (same t tag)) ∷ []
 
   -- ---- runs
 
   module _ (c : Cipher) (laws : Lawful c) (key iv : List ℕ) (first : ℕ) (bk : Bytes key) (bv : Bytes iv) where
-    run-same : (s : Source) (kind : Kind) (bytes : List ℕ) → not16 key ≡ false → not16 iv ≡ false → unalignedRun kind bytes ≡ false → Bytes bytes
+    run-same : (s : Source) (kind : Kind) (bytes : List ℕ) → notKey key ≡ false → not16 iv ≡ false → unalignedRun kind bytes ≡ false → Bytes bytes
         → runRecord g c s key iv first (blocksOfRun kind bytes) ≡ to (runRecord f c s key iv first (blocksOfRun kind bytes))
     unfolding runRecord
     run-same s kind bytes k v a hb =
         made-same first (length (blocksOfRun kind bytes)) ((passFrom c s key iv first (blocksOfRun kind bytes)) .preauthenticator)
-        (run-block c laws s key iv first kind bytes (record { long = has-16 key k; bytes = bk }) (record { long = has-16 iv v; bytes = bv }) hb a)
+        (run-block c laws s key iv first kind bytes (record { size = has-key key k; bytes = bk }) (record { long = has-16 iv v; bytes = bv }) hb a)
 
     seal-same : (kind : Kind) (bytes : List ℕ) (room : ℕ) → Bytes bytes → sealRun g c key iv first kind bytes room ≡ mapOutcome to (sealRun f c key iv first kind bytes room)
     unfolding sealRun

@@ -1,4 +1,4 @@
--- Under a key of 16 bytes every block goes to a block: the halves both ways, the start mask, the middletext, the pre-authenticator.
+-- Under a key of 16 or 32 bytes every block goes to a block: the halves both ways, the start mask, the middletext, the pre-authenticator.
 use mathlib.Core.List.{List, [], _∷_}
 use mathlib.Core.Bool.{Bool, true, false, cond}
 use Prim.Native.Nat.{ℕ}
@@ -6,30 +6,32 @@ use Rattle.blocks.specs.Bytes.{Block, xorBytes, same}
 use Rattle.blocks.proofs.XorBytes.{block-xor}
 use Rattle.gf128.specs.Gf128.{timesX}
 use Rattle.gf128.proofs.TimesX.{block-timesX}
-use Rattle.mode.specs.Mode.{Cipher, Lawful, Source, plaintext, ciphertext, zeroBlock, encrypt, startMask, middletext, pass}
+use Rattle.fips197.specs.Aes.{Key}
+use Rattle.mode.specs.Mode.{Cipher, Lawful, Source, plaintext, ciphertext, zeroBlock, keyBlock, encrypt, startMask, middletext, pass}
+use Rattle.mode.proofs.Keys.{block-keyBlock}
 use Rattle.mode.proofs.Bytes.{AllBlocks}
 
-module _ (c : Cipher) (laws : Lawful c) (key : List ℕ) (kb : Block key) where
+module _ (c : Cipher) (laws : Lawful c) (key : List ℕ) (kb : Key key) where
   pub first-block : (b : List ℕ) → Block b → Block (c .firstHalf key b)
-  first-block b h = record { long = laws .firstHalf-long key b (kb .long) (h .long); bytes = laws .firstHalf-bytes key b kb h }
+  first-block b h = record { long = laws .firstHalf-long key b (kb .size) (h .long); bytes = laws .firstHalf-bytes key b kb h }
 
   pub second-block : (b : List ℕ) → Block b → Block (c .secondHalf key b)
-  second-block b h = record { long = laws .secondHalf-long key b (kb .long) (h .long); bytes = laws .secondHalf-bytes key b kb h }
+  second-block b h = record { long = laws .secondHalf-long key b (kb .size) (h .long); bytes = laws .secondHalf-bytes key b kb h }
 
   pub first-back : (b : List ℕ) → Block b → Block (c .firstHalfBack key b)
-  first-back b h = record { long = laws .firstHalfBack-long key b (kb .long) (h .long); bytes = laws .firstHalfBack-bytes key b kb h }
+  first-back b h = record { long = laws .firstHalfBack-long key b (kb .size) (h .long); bytes = laws .firstHalfBack-bytes key b kb h }
 
   pub second-back : (b : List ℕ) → Block b → Block (c .secondHalfBack key b)
-  second-back b h = record { long = laws .secondHalfBack-long key b (kb .long) (h .long); bytes = laws .secondHalfBack-bytes key b kb h }
+  second-back b h = record { long = laws .secondHalfBack-long key b (kb .size) (h .long); bytes = laws .secondHalfBack-bytes key b kb h }
 
   pub start-block : (iv : List ℕ) → Block iv → Block (startMask c key iv)
   unfolding startMask encrypt
-  start-block iv ib = by (same (xorBytes (encrypt c key (xorBytes iv key)) key) zeroBlock)
+  start-block iv ib = by (keyBlock key) (block-keyBlock key kb) (same (xorBytes (encrypt c key (xorBytes iv (keyBlock key))) (keyBlock key)) zeroBlock)
     where
-      by : (z : Bool) → Block (cond z key (xorBytes (encrypt c key (xorBytes iv key)) key))
-      by true = kb
-      by false =
-          block-xor (encrypt c key (xorBytes iv key)) key (second-block (c .firstHalf key (xorBytes iv key)) (first-block (xorBytes iv key) (block-xor iv key ib kb))) kb
+      by : (k : List ℕ) → Block k → (z : Bool) → Block (cond z k (xorBytes (encrypt c key (xorBytes iv k)) k))
+      by k h true = h
+      by k h false =
+          block-xor (encrypt c key (xorBytes iv k)) k (second-block (c .firstHalf key (xorBytes iv k)) (first-block (xorBytes iv k) (block-xor iv k ib h))) h
 
   middle-block : (s : Source) (mask b : List ℕ) → Block mask → Block b → Block (middletext c s key mask b)
   unfolding middletext

@@ -11,6 +11,7 @@ use Rattle.blocks.proofs.XorBytes.{block-xor}
 use Rattle.blocks.proofs.Bridge.{bytes-words}
 use Rattle.gf128.specs.Gf128.{jump}
 use Rattle.gf128.proofs.TimesX.{block-jump}
+use Rattle.fips197.specs.Aes.{Key}
 use Rattle.mode.specs.Mode.{Cipher, Lawful, Source, RunRecord, inWords, zeroBlock, startMask, pass, unbroken, recordOf}
 use Rattle.mode.specs.Calls.{joined}
 use Rattle.mode.proofs.Laws.{mask-there, preauthenticator-joined}
@@ -31,7 +32,7 @@ zero-words = refl
 pub joined-block : (x y : List ℕ) (n : ℕ) → Block x → Block y → Block (xorBytes (jump n x) y)
 joined-block x y n hx hy = block-xor (jump n x) y (block-jump n x hx) hy
 
-module _ (c : Cipher) (laws : Lawful c) (s : Source) (key : List ℕ) (kb : Block key) (iv : List ℕ) (ib : Block iv) where
+module _ (c : Cipher) (laws : Lawful c) (s : Source) (key : List ℕ) (kb : Key key) (iv : List ℕ) (ib : Block iv) where
   -- the pre-authenticator of `these`, which stand after `before`
   abbrev over : List (List ℕ) → List (List ℕ) → List ℕ
   over before these = (pass c s key these ((unbroken c s key iv before) .mask) zeroBlock) .preauthenticator
@@ -39,7 +40,7 @@ module _ (c : Cipher) (laws : Lawful c) (s : Source) (key : List ℕ) (kb : Bloc
   over-block : (before these : List (List ℕ)) → AllBlocks these → Block (over before these)
   over-block before these h =
       preauthenticator-block c laws key kb s these ((unbroken c s key iv before) .mask) zeroBlock h
-      (rw (mask-there c laws s key (kb .long) iv (ib .long) before) (block-jump (length before) (startMask c key iv) (start-block c laws key kb iv ib))) block-zero
+      (rw (mask-there c laws s key (kb .size) iv (ib .long) before) (block-jump (length before) (startMask c key iv) (start-block c laws key kb iv ib))) block-zero
 
   -- a record holds it
   pub record-bytes : (before these : List (List ℕ)) → AllBlocks these → inWords .preauthenticator (recordOf c s key iv before these) ≡ over before these
@@ -53,6 +54,6 @@ module _ (c : Cipher) (laws : Lawful c) (s : Source) (key : List ℕ) (kb : Bloc
   record-append before x y h =
       same-record (recordOf c s key iv before (x ++ y)) (joined inWords (recordOf c s key iv before x) (recordOf c s key iv (before ++ x) y))
       refl (length-append x y)
-      (ap wordsOf (preauthenticator-joined c laws s key (kb .long) iv (ib .long) before x y (all-blocks-long (x ++ y) h)
+      (ap wordsOf (preauthenticator-joined c laws s key (kb .size) iv (ib .long) before x y (all-blocks-long (x ++ y) h)
       ∙ sym (ap₂ (λ (a b : List ℕ). xorBytes (jump (length y) a) b) (bytes-words (over before x) (over-block before x (all-blocks-left x y h)))
       (bytes-words (over (before ++ x) y) (over-block (before ++ x) y (all-blocks-right x y h))))))

@@ -10,7 +10,9 @@ use Rattle.blocks.proofs.XorBytes.{xorBytes-zeros, xorBytes-comm, xorBytes-asso
 use Rattle.blocks.specs.Bytes.{same}
 use Rattle.gf128.specs.Gf128.{timesX, jump, carry, shiftLeft, reduction}
 use Rattle.gf128.proofs.TimesX.{length-timesX, length-jump, jump-xor, jump-add}
-use Rattle.mode.specs.Mode.{Cipher, Lawful, Source, plaintext, ciphertext, zeroBlock, encrypt, startMask, middletext, written, pass, unbroken}
+use Rattle.fips197.specs.Aes.{KeyLength}
+use Rattle.mode.specs.Mode.{Cipher, Lawful, Source, plaintext, ciphertext, zeroBlock, keyBlock, encrypt, startMask, middletext, written, pass, unbroken}
+use Rattle.mode.proofs.Keys.{keyBlock-long}
 
 abbrev pub AllLong : List (List ℕ) → Type 0
 AllLong [] = Unit {0}
@@ -39,13 +41,13 @@ zero-xor t h = xorBytes-comm zeroBlock t ∙ xorBytes-zeros 16 t h
 pub xor-long : (a b : List ℕ) → length a ≡ 16 → length b ≡ 16 → length (xorBytes a b) ≡ 16
 xor-long a b p q = length-xor a b (p ∙ sym q) ∙ p
 
-module _ (c : Cipher) (laws : Lawful c) (s : Source) (key : List ℕ) (key-long : length key ≡ 16) where
+module _ (c : Cipher) (laws : Lawful c) (s : Source) (key : List ℕ) (key-size : KeyLength key) where
   pub middle-long : (mask b : List ℕ) → length mask ≡ 16 → length b ≡ 16 → length (middletext c s key mask b) ≡ 16
   middle-long mask b hm hb = by s
     where
       by : (s : Source) → length (middletext c s key mask b) ≡ 16
-      by plaintext = unfold middletext in laws .firstHalf-long key (xorBytes b mask) key-long (xor-long b mask hb hm)
-      by ciphertext = unfold middletext in laws .secondHalfBack-long key (xorBytes b mask) key-long (xor-long b mask hb hm)
+      by plaintext = unfold middletext in laws .firstHalf-long key (xorBytes b mask) key-size (xor-long b mask hb hm)
+      by ciphertext = unfold middletext in laws .secondHalfBack-long key (xorBytes b mask) key-size (xor-long b mask hb hm)
 
   -- the mask after some blocks
   pub pass-mask : (bs : List (List ℕ)) (mask pre : List ℕ) → (pass c s key bs mask pre) .mask ≡ jump (length bs) mask
@@ -119,17 +121,13 @@ module _ (c : Cipher) (laws : Lawful c) (s : Source) (key : List ℕ) (key-long 
   module _ (iv : List ℕ) (iv-long : length iv ≡ 16) where
     pub start-long : length (startMask c key iv) ≡ 16
     unfolding startMask encrypt
-    start-long = by (same (xorBytes (encrypt c key (xorBytes iv key)) key) zeroBlock)
+    start-long = by (keyBlock key) (keyBlock-long key key-size) (same (xorBytes (encrypt c key (xorBytes iv (keyBlock key))) (keyBlock key)) zeroBlock)
       where
-        sum-long : length (xorBytes (encrypt c key (xorBytes iv key)) key) ≡ 16
-        sum-long =
-            xor-long (encrypt c key (xorBytes iv key)) key
-            (laws .secondHalf-long key (c .firstHalf key (xorBytes iv key)) key-long
-            (laws .firstHalf-long key (xorBytes iv key) key-long (xor-long iv key iv-long key-long))) key-long
-
-        by : (z : Bool) → length (cond z key (xorBytes (encrypt c key (xorBytes iv key)) key)) ≡ 16
-        by true = key-long
-        by false = sum-long
+        by : (k : List ℕ) → length k ≡ 16 → (z : Bool) → length (cond z k (xorBytes (encrypt c key (xorBytes iv k)) k)) ≡ 16
+        by k h true = h
+        by k h false =
+            xor-long (encrypt c key (xorBytes iv k)) k
+            (laws .secondHalf-long key (c .firstHalf key (xorBytes iv k)) key-size (laws .firstHalf-long key (xorBytes iv k) key-size (xor-long iv k iv-long h))) h
 
     -- the mask where nothing is cut is the start mask jumped
     pub mask-there : (before : List (List ℕ)) → (unbroken c s key iv before) .mask ≡ jump (length before) (startMask c key iv)

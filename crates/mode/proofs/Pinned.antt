@@ -1,26 +1,32 @@
 -- What the demands may not lose: whatever sealing and opening take may be cut, at every block; every call that document 01 allows is allowed, at
--- every place; no pair but one is left out, every call refuses that one, and its row is all that is new; jumps go both ways up to the limit; the table's
--- order is document 01's, and no other order passes for it; every record in words is joined and closed as its bytes are.
+-- every place; no pair is left out but one for each key that lends zeros, every call refuses that one, and its row is all that is new; keys
+-- have 16 bytes or 32; jumps go both ways up to the limit; the table's order is document 01's, and no other order passes for it; every record
+-- in words is joined and closed as its bytes are.
 use mathlib.Core.Path.{_≡_, refl, sym, ap, ap₂, subst, _∙_}
-use mathlib.Core.Logic.{_⊎_, inl, inr}
-use mathlib.Core.List.{List, [], _∷_}
+use mathlib.Core.Logic.{_⊎_, inl, inr, _↔_}
+use mathlib.Core.List.{List, [], _∷_, _++_}
 use mathlib.Core.Bool.{Bool, true, false, cond, not}
 use Prim.Native.Nat.{ℕ, suc, _+_, _*_, _-_, _%_, _≤_, _<_}
 use lib.IntN.{ℤ, pos, negsuc, negℤ, negℤ-negℤ}
-use lib.ListN.{length, drop}
+use lib.ListN.{length, drop, length-append}
 use native.Mathlib.Omega.{arith}
-use Rattle.blocks.specs.Bytes.{Bytes, Block, same, firstBlocks, concat}
+use Rattle.blocks.specs.Bytes.{Bytes, Block, zeros, same, firstBlocks, concat}
 use Rattle.blocks.specs.declared.words.Words.{Words}
 use Rattle.blocks.specs.Words.{Proper, bytesOf, wordsOf}
-use Rattle.blocks.proofs.Chunks.{bytes-take, bytes-drop}
+use Rattle.blocks.proofs.Chunks.{bytes-take, bytes-drop, bytes-append}
 use Rattle.blocks.proofs.Sign.{abs-neg}
-use Rattle.mode.specs.Mode.{Cipher, plaintext, ciphertext, RunRecord, inWords, ByteRecord, inBytes, zeroBlock, encrypt, blocksOf, ivPart, cipherPart, tagPart, sealedRecord, unbrokenTag, UnbrokenCheck}
-use Rattle.mode.specs.Table.{Answer, refused, given, decide, tableOrder, inOrder, not16, unaligned, tooLong, notSealed, beyond, tooFar, apart, notWhole, zeroMask, tooShort, limit, longestMessage}
+use Rattle.fips197.specs.Aes.{KeyLength, short, long, Key}
+use Rattle.mode.specs.Mode.{Cipher, plaintext, ciphertext, RunRecord, inWords, ByteRecord, inBytes, zeroBlock, keyBlock, encrypt, blocksOf, ivPart, cipherPart, tagPart, sealedRecord, unbrokenTag, UnbrokenCheck}
+use Rattle.mode.specs.Table.{Answer, refused, given, decide, tableOrder, inOrder, notKey, not16, unaligned, tooLong, notSealed, beyond, tooFar, apart, notWhole, zeroMask, tooShort, limit, longestMessage}
 use Rattle.mode.specs.Calls.{Outcome, Kind, middle, last, outcomeBy, blocksOfRun, unalignedRun, seal, openSealed, openRows, unpadded, notPadded, orEmpty, plaintextOf, passFrom, runRecord, sealRun, checkRun, joinTwo, closingTag, close, test, Calls, callsOf}
 use Rattle.mode.specs.Parallel.{sealing, checking, ivOf, lastKind, textOf, Fits, Cut, Setting, WellFormed, Segment, isRecorded, segment, Call, runAt, joinPair, joinMany, consecutive, AllRecorded, recordsAt, Allowed, start, roomOf, runOutcome, afterAll, EachCall}
 use Rattle.mode.specs.Demands.{Gives, Refuses, InTable, NonzeroMask, Demand2a, Demand2d, Agrees, Demand3, ZeroMask, zeroMaskIv, without, AsBefore, Formed, inForm, mapAnswer, WordsAsBytes, RunRefused, ZeroMaskRack, JumpsTo, SignedJump}
+use Rattle.mode.proofs.Keys.{keyBlock-short, keyBlock-first, is-key, isnt-key, has-key}
 use Rattle.mode.proofs.Rows.{is-whole}
 use Rattle.mode.proofs.Passed.{has-16}
+use Rattle.mode.proofs.Same.{same-true}
+use Rattle.mode.proofs.InWords.{block-zero}
+use Rattle.mode.proofs.ZeroMask.{key-not-zero}
 use Rattle.mode.proofs.Demand2.{sealing-given, message-fits, sealed-lengths}
 
 -- ---- what may be cut
@@ -32,8 +38,7 @@ unfolding Fits lastKind textOf
 message-cut c key iv message r room e bk bi bm pieces h p =
     let rows = (sealing-given c key iv message r room e) .0 in
     record {
-      key-long = has-16 key (rows .0);
-      key-bytes = bk;
+      key-is = record { size = has-key key (rows .0); bytes = bk };
       iv-bytes = (unfold ivOf in bi);
       text-bytes = bm;
       fits = (has-16 iv (rows .1 .0), message-fits message (rows .1 .1 .0));
@@ -42,13 +47,12 @@ message-cut c key iv message r room e bk bi bm pieces h p =
     }
 
 -- every record of a length that opening takes, genuine or not, in any cut of its ciphertext
-pub record-cut : (key sealed : List ℕ) → length key ≡ 16 → notSealed sealed ≡ false → Bytes key → Bytes sealed
+pub record-cut : (key sealed : List ℕ) → Key key → notSealed sealed ≡ false → Bytes sealed
     → (pieces : List (List ℕ)) → Cut middle pieces → concat pieces ≡ cipherPart sealed → WellFormed (record { key = key; work = checking sealed; pieces = pieces })
 unfolding Fits lastKind textOf
-record-cut key sealed hk hs bk bs pieces h p =
+record-cut key sealed hk hs bs pieces h p =
     record {
-      key-long = hk;
-      key-bytes = bk;
+      key-is = hk;
       iv-bytes = (unfold ivOf ivPart in (bytes-take 16 sealed bs));
       text-bytes = (unfold cipherPart in (bytes-take (length sealed - 32) (drop 16 sealed) (bytes-drop 16 sealed bs)));
       fits = sealed-lengths sealed hs;
@@ -99,9 +103,9 @@ module _ (xs : List Segment) where
 
 -- ---- the pair that demands 2 and 3 leave out
 
--- it is a zero key, and an IV that it encrypts to zero: no other
-pub every-other-pair : (c : Cipher) → ZeroMask c → (key iv : List ℕ) → length key ≡ 16 → length iv ≡ 16
-    → ((key ≡ zeroBlock) × (encrypt c key iv ≡ zeroBlock) → ⊥) → NonzeroMask c key iv
+-- it is a key that lends zeros, and an IV that it encrypts to zero: no other
+pub every-other-pair : (c : Cipher) → ZeroMask c → (key iv : List ℕ) → KeyLength key → length iv ≡ 16
+    → ((keyBlock key ≡ zeroBlock) × (encrypt c key iv ≡ zeroBlock) → ⊥) → NonzeroMask c key iv
 every-other-pair c z key iv hk hi h = by (zeroMask c key iv) refl
   where
     by : (t : Bool) → zeroMask c key iv ≡ t → zeroMask c key iv ≡ false
@@ -109,12 +113,12 @@ every-other-pair c z key iv hk hi h = by (zeroMask c key iv) refl
     by false e = e
 
 -- the three that leave it out ask no more of a pair
-pub sealed-else : (c : Cipher) → Demand2a c → (key iv message : List ℕ) (room : ℕ) → zeroMask c key iv ≡ false → length key ≡ 16 → length iv ≡ 16
+pub sealed-else : (c : Cipher) → Demand2a c → (key iv message : List ℕ) (room : ℕ) → zeroMask c key iv ≡ false → KeyLength key → length iv ≡ 16
     → length message ≤ longestMessage → length (sealedRecord c key iv message) ≤ room
     → Gives (seal c key iv message room) (sealedRecord c key iv message) (sealedRecord c key iv message) room
 sealed-else c d = d .seals
 
-pub checked-else : (c : Cipher) → Demand2d c → (key sealed : List ℕ) → zeroMask c key (ivPart sealed) ≡ false → length key ≡ 16 → notSealed sealed ≡ false
+pub checked-else : (c : Cipher) → Demand2d c → (key sealed : List ℕ) → zeroMask c key (ivPart sealed) ≡ false → KeyLength key → notSealed sealed ≡ false
     → UnbrokenCheck c key sealed → (openSealed c key sealed (length (cipherPart sealed))) .answer ≡ refused 6 → ⊥
 checked-else c d key sealed z hk hs u six = by ((d key sealed z hk hs) .0 u)
   where
@@ -130,35 +134,59 @@ pub cut-else : (c : Cipher) (m : Calls) → Demand3 c m → (s : Setting) → ze
 cut-else c m d = d
 
 -- under it every call gives 10: whatever is lent, whatever the tag, and for an empty run at every block up to the limit
-module _ (c : Cipher) (z : ZeroMask c) where
+module _ (c : Cipher) (z : ZeroMask c) (key : List ℕ) (hk : Key key) (zeroed : keyBlock key ≡ zeroBlock) where
   abbrev iv₀ : List ℕ
-  iv₀ = zeroMaskIv c
+  iv₀ = zeroMaskIv c key
 
-  pub seal-ten : (message : List ℕ) (room : ℕ) → length message ≤ longestMessage → Refuses (seal c zeroBlock iv₀ message room) 10 room
-  seal-ten message room h = z .of-seal zeroBlock iv₀ message room (z .one-iv .1) refl (z .one-iv .0 .long) h
+  iv₀-long : length iv₀ ≡ 16
+  iv₀-long = z .one-iv key hk zeroed .0 .long
 
-  pub open-ten : (sealed : List ℕ) (room : ℕ) → notSealed sealed ≡ false → ivPart sealed ≡ iv₀ → Refuses (openSealed c zeroBlock sealed room) 10 room
-  open-ten sealed room h e = z .of-open zeroBlock sealed room (rw e (z .one-iv .1)) refl h
+  zero-mask : zeroMask c key iv₀ ≡ true
+  zero-mask = z .one-iv key hk zeroed .1
+
+  pub seal-ten : (message : List ℕ) (room : ℕ) → length message ≤ longestMessage → Refuses (seal c key iv₀ message room) 10 room
+  seal-ten message room h = z .of-seal key iv₀ message room zero-mask (hk .size) iv₀-long h
+
+  pub open-ten : (sealed : List ℕ) (room : ℕ) → notSealed sealed ≡ false → ivPart sealed ≡ iv₀ → Refuses (openSealed c key sealed room) 10 room
+  open-ten sealed room h e = z .of-open key sealed room (rw e zero-mask) (hk .size) h
 
   pub seal-run-ten : (first : ℕ) (kind : Kind) (bytes : List ℕ) (room : ℕ) → unalignedRun kind bytes ≡ false → first + length (blocksOfRun kind bytes) ≤ limit
-      → Refuses (sealRun inWords c zeroBlock iv₀ first kind bytes room) 10 room
-  seal-run-ten first kind bytes room a h = z .of-seal-run zeroBlock iv₀ first kind bytes room (z .one-iv .1) refl (z .one-iv .0 .long) a h
+      → Refuses (sealRun inWords c key iv₀ first kind bytes room) 10 room
+  seal-run-ten first kind bytes room a h = z .of-seal-run key iv₀ first kind bytes room zero-mask (hk .size) iv₀-long a h
 
   pub empty-run-ten : (first room : ℕ) → first ≤ limit
-      → Refuses (sealRun inWords c zeroBlock iv₀ first middle [] room) 10 room × (checkRun inWords c zeroBlock iv₀ first [] ≡ refused 10)
+      → Refuses (sealRun inWords c key iv₀ first middle [] room) 10 room × (checkRun inWords c key iv₀ first [] ≡ refused 10)
   unfolding unalignedRun unaligned blocksOfRun blocksOf firstBlocks
   empty-run-ten first room h = (
     seal-run-ten first middle [] room refl (omega arith),
-    z .of-check-run zeroBlock iv₀ first [] (z .one-iv .1) refl (z .one-iv .0 .long) refl (omega arith),
+    z .of-check-run key iv₀ first [] zero-mask (hk .size) iv₀-long refl (omega arith),
   )
 
   pub close-ten : (r : RunRecord) (tag : List ℕ) → r .first ≡ 0 → 0 < r .count → r .count ≤ limit → length tag ≡ 16
-      → (close inWords c zeroBlock iv₀ r ≡ refused 10) × (test inWords c zeroBlock iv₀ r tag ≡ refused 10)
+      → (close inWords c key iv₀ r ≡ refused 10) × (test inWords c key iv₀ r tag ≡ refused 10)
   close-ten r tag start some h t =
       let w = is-whole r start (λ e. omega arith) in (
-        z .of-close zeroBlock iv₀ r (z .one-iv .1) refl (z .one-iv .0 .long) (omega arith) w,
-        z .of-test zeroBlock iv₀ r tag (z .one-iv .1) refl (z .one-iv .0 .long) t (omega arith) w,
+        z .of-close key iv₀ r zero-mask (hk .size) iv₀-long (omega arith) w,
+        z .of-test key iv₀ r tag zero-mask (hk .size) iv₀-long t (omega arith) w,
       )
+
+-- such keys are the zero key of 16 bytes, and the keys of 32 bytes whose first 16 are zero, whatever the last 16 are
+pub zero-key : Key zeroBlock × (keyBlock zeroBlock ≡ zeroBlock)
+zero-key = (record { size = short refl; bytes = block-zero .bytes }, keyBlock-short zeroBlock refl)
+
+pub zeros-first : (b : List ℕ) → Block b → Key (zeroBlock ++ b) × (keyBlock (zeroBlock ++ b) ≡ zeroBlock)
+zeros-first b h = (
+  record { size = long (length-append zeroBlock b ∙ ap (λ (n : ℕ). 16 + n) (h .long)); bytes = bytes-append zeroBlock b (block-zero .bytes) (h .bytes) },
+  keyBlock-first zeroBlock b refl,
+)
+
+-- a key of 32 bytes whose first 16 are not zero has no such IV, whatever the last 16 are: zeros too
+pub first-not-zero : (c : Cipher) (a b iv : List ℕ) → length a ≡ 16 → (a ≡ zeroBlock → ⊥) → NonzeroMask c (a ++ b) iv
+first-not-zero c a b iv h n = by (same (keyBlock (a ++ b)) zeroBlock) refl
+  where
+    by : (t : Bool) → same (keyBlock (a ++ b)) zeroBlock ≡ t → zeroMask c (a ++ b) iv ≡ false
+    by true e = absurd (n (sym (keyBlock-first a b h) ∙ same-true (keyBlock (a ++ b)) zeroBlock e))
+    by false e = key-not-zero c (a ++ b) iv e
 
 -- and so does every run on the rack
 pub run-ten : (c : Cipher) → ZeroMaskRack c → (s : Setting) → zeroMask c (s .key) (ivOf (s .work)) ≡ true → WellFormed s
@@ -171,7 +199,7 @@ module _ (c : Cipher) (b : AsBefore c) (key iv : List ℕ) where
   pub seal-before : (message : List ℕ) (room : ℕ) → zeroMask c key iv ≡ false
       → let s = sealedRecord c key iv message in
       seal c key iv message room
-      ≡ outcomeBy (decide ((1, not16 key) ∷ (2, not16 iv) ∷ (3, tooLong message) ∷ (5, tooShort room (length s)) ∷ []) s) s room
+      ≡ outcomeBy (decide ((1, notKey key) ∷ (2, not16 iv) ∷ (3, tooLong message) ∷ (5, tooShort room (length s)) ∷ []) s) s room
   unfolding without
   seal-before message room z = b .of-seal key iv message room z
 
@@ -180,7 +208,7 @@ module _ (c : Cipher) (b : AsBefore c) (key iv : List ℕ) where
       openSealed c key sealed room
       ≡ outcomeBy
       (decide
-      ((1, not16 key)
+      ((1, notKey key)
       ∷ (3, notSealed sealed)
       ∷ (5, tooShort room (length (cipherPart sealed)))
       ∷ (6, not (same (unbrokenTag c ciphertext key (ivPart sealed) (blocksOf (cipherPart sealed))) (tagPart sealed)))
@@ -195,7 +223,7 @@ module _ (c : Cipher) (b : AsBefore c) (key iv : List ℕ) where
       sealRun inWords c key iv first kind bytes room
       ≡ outcomeBy
       (decide
-      ((1, not16 key)
+      ((1, notKey key)
       ∷ (2, not16 iv)
       ∷ (3, unalignedRun kind bytes)
       ∷ (4, beyond first (length blocks))
@@ -207,21 +235,21 @@ module _ (c : Cipher) (b : AsBefore c) (key iv : List ℕ) where
 
   pub check-run-before : (first : ℕ) (bytes : List ℕ) → zeroMask c key iv ≡ false
       → checkRun inWords c key iv first bytes
-      ≡ decide ((1, not16 key) ∷ (2, not16 iv) ∷ (3, unaligned bytes) ∷ (4, beyond first (length (blocksOf bytes))) ∷ [])
+      ≡ decide ((1, notKey key) ∷ (2, not16 iv) ∷ (3, unaligned bytes) ∷ (4, beyond first (length (blocksOf bytes))) ∷ [])
       (runRecord inWords c ciphertext key iv first (blocksOf bytes))
   unfolding without
   check-run-before first bytes z = b .of-check-run key iv first bytes z
 
   pub close-before : (r : RunRecord) → zeroMask c key iv ≡ false
       → close inWords c key iv r
-      ≡ decide ((1, not16 key) ∷ (2, not16 iv) ∷ (4, beyond (r .first) (r .count)) ∷ (9, notWhole inWords r) ∷ []) (closingTag inWords c key iv r)
+      ≡ decide ((1, notKey key) ∷ (2, not16 iv) ∷ (4, beyond (r .first) (r .count)) ∷ (9, notWhole inWords r) ∷ []) (closingTag inWords c key iv r)
   unfolding without
   close-before r z = b .of-close key iv r z
 
   pub test-before : (r : RunRecord) (tag : List ℕ) → zeroMask c key iv ≡ false
       → test inWords c key iv r tag
       ≡ decide
-      ((1, not16 key)
+      ((1, notKey key)
       ∷ (2, not16 iv)
       ∷ (3, not16 tag)
       ∷ (4, beyond (r .first) (r .count))
@@ -231,6 +259,26 @@ module _ (c : Cipher) (b : AsBefore c) (key iv : List ℕ) where
       tt
   unfolding without
   test-before r tag z = b .of-test key iv r tag z
+
+-- ---- row 1
+
+-- it lets through keys of 16 bytes and of 32, and none of any other length
+pub keys-taken : (key : List ℕ) → (notKey key ≡ false) ↔ KeyLength key
+keys-taken key = (has-key key, is-key key)
+
+pub other-lengths : (key : List ℕ) → (KeyLength key → ⊥) → notKey key ≡ true
+other-lengths key h = isnt-key key (λ e. h (short e)) (λ e. h (long e))
+
+abbrev rowOne : ℕ → Bool
+rowOne n = notKey (zeros n)
+
+pub lengths-taken : (rowOne 16 ≡ false) × (rowOne 32 ≡ false)
+unfolding notKey
+lengths-taken = (refl, refl)
+
+pub lengths-refused : (rowOne 0 ≡ true) × (rowOne 15 ≡ true) × (rowOne 17 ≡ true) × (rowOne 24 ≡ true) × (rowOne 31 ≡ true) × (rowOne 33 ≡ true) × (rowOne 48 ≡ true)
+unfolding notKey
+lengths-refused = (refl, refl, refl, refl, refl, refl, refl)
 
 -- ---- the signed jump
 

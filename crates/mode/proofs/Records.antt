@@ -19,6 +19,7 @@ use Rattle.gf128.proofs.TimesX.{jump-xor, jump-add, length-jump, block-jump}
 use Rattle.mode.specs.Mode.{Cipher, Lawful, plaintext, ciphertext, RunRecord, inWords, zeroBlock, startMask, blocksOf}
 use Rattle.mode.specs.Table.{Answer, refused, given, decide, NoneHolds, beyond, anyBeyond, apart, limit, none}
 use Rattle.mode.specs.Calls.{joined, joinedOnto, joinedAll, joinList, blocksOfRun, outcomeBy, passFrom, runRecord, sealRun, sealRunRows, checkRun, checkRunRows}
+use Rattle.mode.proofs.Keys.{is-key}
 use Rattle.mode.proofs.InWords.{same-record, block-zero, joined-block}
 use Rattle.mode.proofs.Blocks.{aligned}
 use Rattle.mode.proofs.Runs.{is16}
@@ -166,4 +167,4 @@ checked-as-sealed c laws key iv kb ib first kind bytes room hb r e =
     passes =
         unfold checkRun in
         passed-rows (checkRunRows c key iv first text) (runRecord inWords c ciphertext key iv first (blocksOf text))
-        (is16 key (kb .long), (is16 iv (ib .long), (aligned text text-aligned, (four, (g .0 .1 .1 .1 .1 .0, tt)))))
+        (is-key key (kb .size), (is16 iv (ib .long), (aligned text text-aligned, (four, (g .0 .1 .1 .1 .1 .0, tt)))))

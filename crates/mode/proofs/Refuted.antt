@@ -4,21 +4,21 @@ use mathlib.Core.Path.{_≡_, refl, sym, ap, _∙_}
 use mathlib.Core.Logic.{inl, inr, _↔_}
 use mathlib.Core.List.{List, [], _∷_}
 use mathlib.Core.Bool.{Bool, cond}
-use Prim.Native.Nat.{ℕ, _+_, _*_, _-_}
+use Prim.Native.Nat.{ℕ, _+_, _*_, _-_, _%_}
 use native.Mathlib.Omega.{arith}
-use lib.ListN.{length, getD, replicate}
+use lib.ListN.{length, take, drop, getD, replicate}
 use lib.Dec.{lit<, lit≤, ltb, eqb}
 use Rattle.blocks.specs.Bytes.{xorBytes, same, concat}
 use Rattle.blocks.specs.Words.{bytesOf, wordsOf}
 use Rattle.blocks.specs.declared.words.Words.{Words}
 use Rattle.gf128.specs.Gf128.{jump}
-use Rattle.mode.specs.Mode.{plaintext, ciphertext, RunRecord, inWords, zeroBlock, blocksOf, encrypt, startMask, tagFrom, UnbrokenCheck}
-use Rattle.mode.specs.Table.{Answer, refused, given, decide, anyBeyond, apart, none}
+use Rattle.mode.specs.Mode.{plaintext, ciphertext, RunRecord, inWords, zeroBlock, keyBlock, blocksOf, encrypt, startMask, pass, tagFrom, UnbrokenCheck}
+use Rattle.mode.specs.Table.{Answer, refused, given, decide, not16, anyBeyond, apart, none}
 use Rattle.mode.specs.Calls.{Kind, middle, last, blocksOfRun, Outcome, outcomeBy, joined, joinedAll, blank, joinTwo, joinTwoRows, joinList, joinListRows, passFrom, runRecord, sealRun, sealRunRows, checkRun, checkRunRows, close, closeRows, test, Calls}
 use Rattle.mode.specs.Parallel.{Segment, recorded, Call, runAt, joinPair, joinMany, Allowed, recordBy, start, afterAll}
-use Rattle.mode.specs.Demands.{Gives, Refuses, Expected, Whole, Agrees, Demand3}
+use Rattle.mode.specs.Demands.{startMaskBy, Gives, Refuses, Expected, Whole, Agrees, Demand3}
 use Rattle.mode.proofs.Decisions.{outcome-answer}
-use Rattle.mode.proofs.Toy.{toy, computed, aKey, anIv, onePiece, onePiece-formed, zeroKey, zeroKey-formed, replaced, replaced-formed, oneText, oneChecked, oneChecked-formed, twoChecked, twoChecked-formed, threePieces, threePieces-formed}
+use Rattle.mode.proofs.Toy.{toy, computed, aKey, anIv, onePiece, onePiece-formed, zeroKey, zeroKey-formed, replaced, replaced-formed, longReplaced, longReplaced-formed, oneText, oneChecked, oneChecked-formed, twoChecked, twoChecked-formed, threePieces, threePieces-formed}
 
 -- two words alike
 abbrev each : ℕ → Words
@@ -252,7 +252,7 @@ asksTenBy ten key iv first kind bytes room =
     outcomeBy (decide ((10, ten key iv) ∷ []) (runRecord inWords toy plaintext key iv first blocks)) ((passFrom toy plaintext key iv first blocks) .output) room
 
 abbrev ofZeroKeys : List ℕ → List ℕ → Bool
-ofZeroKeys key iv = same key zeroBlock
+ofZeroKeys key iv = same (keyBlock key) zeroBlock
 
 pub zero-key-refuted : Demand3 toy (sealingBy (asksTenBy ofZeroKeys)) → ⊥
 unfolding computed asksTenBy
@@ -260,12 +260,35 @@ zero-key-refuted d =
     no-answer 10 _ ((d zeroKey refl zeroKey-formed (runAt 0 16 ∷ []) ((lit< tt, refl), tt)) .answers .0 .with-room (lit≤ tt) .answers)
 
 abbrev beforeReplaced : List ℕ → List ℕ → Bool
-beforeReplaced key iv = same (xorBytes (encrypt toy key (xorBytes iv key)) key) zeroBlock
+beforeReplaced key iv = same (xorBytes (encrypt toy key (xorBytes iv (keyBlock key))) (keyBlock key)) zeroBlock
 
 pub before-replaced-refuted : Demand3 toy (sealingBy (asksTenBy beforeReplaced)) → ⊥
 unfolding computed asksTenBy
 before-replaced-refuted d =
     no-answer 10 _ ((d replaced refl replaced-formed (runAt 0 16 ∷ []) ((lit< tt, refl), tt)) .answers .0 .with-room (lit≤ tt) .answers)
+
+-- a sealer that takes keys of 16 bytes alone, and one that lends step 1 the last 16 bytes of a key
+pub shortKeysOnly : List ℕ → List ℕ → ℕ → Kind → List ℕ → ℕ → Outcome RunRecord
+shortKeysOnly key iv first kind bytes room =
+    let o = sealRun inWords toy key iv first kind bytes room in
+    outcomeBy (cond (not16 key) (refused 1) (o .answer)) (take (o .reported) (o .output)) room
+
+pub short-keys-only-refuted : Demand3 toy (sealingBy shortKeysOnly) → ⊥
+unfolding computed shortKeysOnly
+short-keys-only-refuted d =
+    no-answer 1 _ ((d longReplaced refl longReplaced-formed (runAt 0 16 ∷ []) ((lit< tt, refl), tt)) .answers .0 .with-room (lit≤ tt) .answers)
+
+pub lastLent : List ℕ → List ℕ → ℕ → Kind → List ℕ → ℕ → Outcome RunRecord
+lastLent key iv first kind bytes room =
+    let blocks = blocksOfRun kind bytes in
+    let p = pass toy plaintext key blocks (jump first (startMaskBy toy key (drop (length key - 16) key) iv)) zeroBlock in
+    outcomeBy (decide (sealRunRows toy key iv first kind bytes room) (inWords .make first (length blocks) (p .preauthenticator))) (p .output) room
+
+pub last-lent-refuted : Demand3 toy (sealingBy lastLent) → ⊥
+unfolding computed lastLent
+last-lent-refuted d =
+    let e : _≡_ {A = ℕ} 0 8 = ap (λ (r : RunRecord). r .preauthenticator .low % 16) (same-answer _ _ ((d longReplaced refl longReplaced-formed (runAt 0 16 ∷ []) ((lit< tt, refl), tt)) .answers .0 .with-room (lit≤ tt) .answers)) in
+    omega arith
 
 -- a checker that runs the wrong half
 pub wrongHalf : List ℕ → List ℕ → ℕ → List ℕ → Answer RunRecord

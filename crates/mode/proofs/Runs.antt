@@ -13,10 +13,12 @@ use Rattle.blocks.specs.Bytes.{xorBytes}
 use Rattle.blocks.specs.Words.{wordsOf}
 use Rattle.gf128.specs.Gf128.{timesX, jump}
 use Rattle.gf128.proofs.TimesX.{length-timesX, length-jump, jump-add}
+use Rattle.fips197.specs.Aes.{KeyLength}
 use Rattle.mode.specs.Mode.{Cipher, Lawful, Source, plaintext, ciphertext, RunRecord, inWords, zeroBlock, startMask, middletext, written, pass, unbroken, recordOf, blocksOf, ivPart}
 use Rattle.mode.specs.Table.{Answer, refused, given, decide, not16, beyond, zeroMask, limit}
 use Rattle.mode.specs.Calls.{unalignedRun, Kind, middle, last, blocksOfRun, outcomeBy, passFrom, runRecord, sealRun, sealRunRows, checkRun, callsOf}
 use Rattle.mode.specs.Parallel.{Work, sealing, checking, sourceOf, ivOf, Fits, Run, roomOf, outcomeOfRun}
+use Rattle.mode.proofs.Keys.{is-key}
 use Rattle.mode.proofs.Laws.{AllLong, all-left, all-right, output-append, start-long, mask-there, middle-long, xor-long}
 use Rattle.mode.proofs.Blocks.{run-long}
 use Rattle.mode.proofs.InWords.{same-record}
@@ -74,14 +76,14 @@ unfolding pass written
 nothing-written c key [] mask p = refl
 nothing-written c key (b ∷ bs) mask p = nothing-written c key bs (timesX mask) (xorBytes (timesX p) (middletext c ciphertext key mask b))
 
-module _ (c : Cipher) (laws : Lawful c) (key : List ℕ) (key-long : length key ≡ 16) where
+module _ (c : Cipher) (laws : Lawful c) (key : List ℕ) (key-size : KeyLength key) where
   pub output-long : (bs : List (List ℕ)) (mask p : List ℕ) → AllLong bs → length mask ≡ 16 → length ((pass c plaintext key bs mask p) .output) ≡ 16 * length bs
   unfolding pass written
   output-long [] mask p hs hm = refl
   output-long (b ∷ bs) mask p hs hm =
       length-append (xorBytes (c .secondHalf key t) mask) ((pass c plaintext key bs (timesX mask) (xorBytes (timesX p) t)) .output)
       ∙ ap₂ (λ (x y : ℕ). x + y)
-      (xor-long (c .secondHalf key t) mask (laws .secondHalf-long key t key-long (middle-long c laws plaintext key key-long mask b hm (hs .0))) hm)
+      (xor-long (c .secondHalf key t) mask (laws .secondHalf-long key t key-size (middle-long c laws plaintext key key-size mask b hm (hs .0))) hm)
       (output-long bs (timesX mask) (xorBytes (timesX p) t) (hs .1) (length-timesX mask hm))
       ∙ omega arith
     where
@@ -90,12 +92,12 @@ module _ (c : Cipher) (laws : Lawful c) (key : List ℕ) (key-long : length key 
 
   module _ (w : Work) (fit : Fits w) where
     pub mask0-long : length (mask0 c key w) ≡ 16
-    mask0-long = start-long c laws (sourceOf w) key key-long (ivOf w) (iv-long w fit)
+    mask0-long = start-long c laws (sourceOf w) key key-size (ivOf w) (iv-long w fit)
 
     pub outputOf-append : (before x y : List (List ℕ)) → outputOf c key w before (x ++ y) ≡ outputOf c key w before x ++ outputOf c key w (before ++ x) y
     unfolding outputOf
     outputOf-append before x y =
-        output-append c laws (sourceOf w) key key-long x y (jump (length before) (mask0 c key w)) zeroBlock zeroBlock
+        output-append c laws (sourceOf w) key key-size x y (jump (length before) (mask0 c key w)) zeroBlock zeroBlock
         ∙ ap (λ (m : List ℕ). outputOf c key w before x ++ (pass c (sourceOf w) key y m zeroBlock) .output) same-mask
       where
         same-mask : jump (length x) (jump (length before) (mask0 c key w)) ≡ jump (length (before ++ x)) (mask0 c key w)
@@ -141,7 +143,7 @@ module _ (c : Cipher) (laws : Lawful c) (key : List ℕ) (key-long : length key 
     run-record before these first e =
         same-record (runRecord inWords c (sourceOf w) key (ivOf w) first these) (recordFor c key w before these) e refl
         (ap (λ (m : List ℕ). wordsOf ((pass c (sourceOf w) key these m zeroBlock) .preauthenticator))
-        (ap (λ (n : ℕ). jump n (mask0 c key w)) e ∙ sym (mask-there c laws (sourceOf w) key key-long (ivOf w) (iv-long w fit) before)))
+        (ap (λ (n : ℕ). jump n (mask0 c key w)) e ∙ sym (mask-there c laws (sourceOf w) key key-size (ivOf w) (iv-long w fit) before)))
 
     run-output : (before these : List (List ℕ)) (first : ℕ) → first ≡ length before
         → (passFrom c (sourceOf w) key (ivOf w) first these) .output ≡ outputOf c key w before these
@@ -155,7 +157,7 @@ module _ (c : Cipher) (laws : Lawful c) (key : List ℕ) (key-long : length key 
   unfolding checkRun decide blocksOfRun unalignedRun ivOf
   check-rows middle sealed r fit e al bd =
       let b : beyond (r .first) (length (blocksOf (r .bytes))) ≡ false = within (r .first) (length (blocksOf (r .bytes))) bd in
-      rw (is16 key key-long, is16 (ivPart sealed) (iv-long (checking sealed) fit), al, b)
+      rw (is-key key key-size, is16 (ivPart sealed) (iv-long (checking sealed) fit), al, b)
   check-rows last sealed r fit e al bd = absurd (let z : _≡_ {A = ℕ} 0 1 = cc in omega arith)
 
   -- what the call of a run comes to
@@ -190,7 +192,7 @@ module _ (c : Cipher) (laws : Lawful c) (key : List ℕ) (key-long : length key 
           ≡ cond (zeroMask c key iv) (refused 10) (cond (ltb room (16 * n)) (refused 5) (given (runRecord inWords c plaintext key iv (r .first) bs)))
       rows =
           let b : beyond (r .first) n ≡ false = within (r .first) n (rw (good .starts) bound) in
-          rw (is16 key key-long, is16 iv (iv-long w fit), good .is-aligned, b)
+          rw (is-key key key-size, is16 iv (iv-long w fit), good .is-aligned, b)
 
       out-long : length (outputOf c key w before bs) ≡ 16 * n
       out-long =

@@ -9,6 +9,7 @@ use lib.ListN.{length, take, drop, length-append, take-append-drop}
 use lib.Seq.{split-at, drop-cons}
 use lib.Dec.{eqb}
 use borrow.Author.Tests.{eq-eqb}
+use Rattle.fips197.specs.Aes.{Key}
 use Rattle.mode.specs.Mode.{Cipher, Lawful, RunRecord, inWords, pass, recordOf}
 use Rattle.mode.specs.Table.{beyond, anyBeyond, apart, limit}
 use Rattle.mode.specs.Calls.{blocksOfRun, joined, joinedOnto, joinedAll}
@@ -169,7 +170,7 @@ module _ (c : Cipher) (key : List ℕ) (w : Work) where
       rw (s .0 .0, s .1 .0 .0) (eq-eqb (length before + length (blocksOfRuns rs)) (length (before ++ blocksOfRuns rs)) (sym (length-append before (blocksOfRuns rs)))) in
       rw e (not-apart (before ++ blocksOfRuns rs) (recorded rs′ b bytes′ ∷ ys) (s .1) (r .1))
 
-module _ (c : Cipher) (laws : Lawful c) (key : List ℕ) (kb : Block key) (w : Work) (ib : Block (ivOf w)) (fit : Fits w) where
+module _ (c : Cipher) (laws : Lawful c) (key : List ℕ) (kb : Key key) (w : Work) (ib : Block (ivOf w)) (fit : Fits w) where
   -- neighbours joined onto the record of what stands before them
   joined-onto : (before x : List (List ℕ)) (ys : List Segment) → Sound c key w (before ++ x) ys → Recs ys → AllBlocks (x ++ blocksIn ys)
       → joinedOnto inWords (recordFor c key w before x) (map recordIn ys) ≡ recordFor c key w before (x ++ blocksIn ys)
@@ -204,5 +205,5 @@ module _ (c : Cipher) (laws : Lawful c) (key : List ℕ) (kb : Block key) (w : W
   bytes-all before (pending a ∷ ys) s r = not-both (r .0)
   bytes-all before (recorded rs a bytes ∷ ys) s r =
       ap₂ (λ (x y : List ℕ). x ++ y) (s .0 .1) (bytes-all (before ++ blocksOfRuns rs) ys (s .1) (r .1))
-      ∙ sym (outputOf-append c laws key (kb .long) w fit before (blocksOfRuns rs) (blocksIn ys))
+      ∙ sym (outputOf-append c laws key (kb .size) w fit before (blocksOfRuns rs) (blocksIn ys))
       ∙ ap (outputOf c key w before) (sym (blocksIn-cons (recorded rs a bytes) ys))

@@ -61,6 +61,6 @@ signed-jump c laws =
       from-run = λ key iv first hk hv r. from-there (startMask c key iv) first (start-block c laws key hk iv hv) r;
       from-closing = λ key iv q hk hv r. from-there (startMask c key iv) (q .count) (start-block c laws key hk iv hv) r;
       from-unbroken = λ s key iv before hk hv r.
-          subst (λ (m : List ℕ). JumpsTo m (negℤ (pos (length before))) (startMask c key iv)) (sym (mask-there c laws s key (hk .long) iv (hv .long) before))
+          subst (λ (m : List ℕ). JumpsTo m (negℤ (pos (length before))) (startMask c key iv)) (sym (mask-there c laws s key (hk .size) iv (hv .long) before))
           (from-there (startMask c key iv) (length before) (start-block c laws key hk iv hv) r);
     }

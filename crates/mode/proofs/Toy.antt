@@ -1,50 +1,81 @@
 -- A lawful cipher that is easy to compute with, and settings over it: what the statements of the demands come to in small cases.
-use mathlib.Core.Path.{refl, sym, _∙_}
+use mathlib.Core.Path.{_≡_, refl, sym, _∙_}
 use mathlib.Core.List.{List, [], _∷_, _++_}
-use Prim.Native.Nat.{ℕ}
-use lib.ListN.{replicate}
+use Prim.Native.Nat.{ℕ, _-_}
+use native.Mathlib.Omega.{arith}
+use lib.ListN.{length, drop, replicate, length-drop}
 use lib.Dec.{lit≤}
-use Rattle.blocks.specs.Bytes.{xorBytes, firstBlocks, same, concat}
+use Rattle.blocks.specs.Bytes.{Block, xorBytes, firstBlocks, same, concat}
 use Rattle.blocks.specs.Num.{num, lowBytes}
 use Rattle.blocks.specs.Words.{bytesOf, wordsOf}
+use Rattle.blocks.proofs.Chunks.{bytes-drop}
 use Rattle.blocks.proofs.Test.{bytes-by}
 use Rattle.blocks.proofs.XorBytes.{xorBytes-cancel, block-xor}
 use Rattle.gf128.specs.Gf128.{timesX, jump, carry, shiftLeft, reduction}
-use Rattle.mode.specs.Mode.{Cipher, Lawful, zeroBlock, blocksOf, padded, encrypt, startMask, middletext, written, pass, unbroken, recordOf, ivPart, cipherPart, tagPart, tagFrom, unbrokenTag, sealedRecord}
-use Rattle.mode.specs.Table.{decide, not16, unaligned, beyond, anyBeyond, apart, none, notWhole, notSealed, zeroMask}
+use Rattle.fips197.specs.Aes.{KeyLength, short, long, Key}
+use Rattle.mode.specs.Mode.{Cipher, Lawful, zeroBlock, keyBlock, blocksOf, padded, encrypt, startMask, middletext, written, pass, unbroken, recordOf, ivPart, cipherPart, tagPart, tagFrom, unbrokenTag, sealedRecord}
+use Rattle.mode.specs.Table.{decide, notKey, not16, unaligned, beyond, anyBeyond, apart, none, notWhole, notSealed, zeroMask}
 use Rattle.mode.specs.Calls.{unalignedRun, blocksOfRun, outcomeBy, joined, joinedOnto, joinedAll, joinTwo, joinList, passFrom, runRecord, sealRun, checkRun, closingTag, close, test, openSealed, openRows, notPadded, orEmpty, unpadded, unpadFrom, plaintextOf, decrypted}
 use Rattle.mode.specs.Parallel.{sealing, checking, sourceOf, ivOf, textOf, lastKind, allBlocks, Fits, Cut, Setting, WellFormed, runsFrom, blocksOfRuns, runsIn, recordIn, bytesIn, isRecorded, runsOf, bytesOfSegments, blocksIn, consecutive, AllRecorded, Allowed, mergeBy, recordBy, headOr, firstRun, empties, start, roomOf, outcomeOfRun, runOutcome, answerOf, after, afterAll, EachCall}
 use Rattle.mode.specs.Demands.{whole, wholeTag, recordOfSegments, ciphertextOfSegment, Expected, TestedAs}
+use Rattle.mode.proofs.Keys.{at-least-16}
 use Rattle.mode.proofs.Laws.{xor-long}
 
--- the first half adds the key, and the second changes nothing
+-- the first half adds the last 16 bytes of the key, and the second changes nothing
+abbrev pub toyBlock : List ℕ → List ℕ
+toyBlock key = drop (length key - 16) key
+
 abbrev pub toy : Cipher
-toy = record { firstHalf = λ key b. xorBytes b key; secondHalf = λ key b. b; firstHalfBack = λ key b. xorBytes b key; secondHalfBack = λ key b. b }
+toy = record {
+  firstHalf = λ key b. xorBytes b (toyBlock key);
+  secondHalf = λ key b. b;
+  firstHalfBack = λ key b. xorBytes b (toyBlock key);
+  secondHalfBack = λ key b. b;
+}
+
+toy-long : (key : List ℕ) → KeyLength key → length (toyBlock key) ≡ 16
+toy-long key h = length-drop (length key - 16) key ∙ omega (arith, at-least-16 key h)
+
+toy-block : (key : List ℕ) → Key key → Block (toyBlock key)
+toy-block key h = record { long = toy-long key (h .size); bytes = bytes-drop (length key - 16) key (h .bytes) }
+
+twice : (key b : List ℕ) → Key key → Block b → xorBytes (xorBytes b (toyBlock key)) (toyBlock key) ≡ b
+twice key b hk hb = xorBytes-cancel b (toyBlock key) (hb .long ∙ sym (toy-long key (hk .size)))
 
 pub toy-lawful : Lawful toy
 toy-lawful =
     record {
-      firstHalf-long = λ key b hk hb. xor-long b key hb hk;
+      firstHalf-long = λ key b hk hb. xor-long b (toyBlock key) hb (toy-long key hk);
       secondHalf-long = λ key b hk hb. hb;
-      firstHalfBack-long = λ key b hk hb. xor-long b key hb hk;
+      firstHalfBack-long = λ key b hk hb. xor-long b (toyBlock key) hb (toy-long key hk);
       secondHalfBack-long = λ key b hk hb. hb;
-      firstHalf-bytes = λ key b hk hb. (block-xor b key hb hk) .bytes;
+      firstHalf-bytes = λ key b hk hb. (block-xor b (toyBlock key) hb (toy-block key hk)) .bytes;
       secondHalf-bytes = λ key b hk hb. hb .bytes;
-      firstHalfBack-bytes = λ key b hk hb. (block-xor b key hb hk) .bytes;
+      firstHalfBack-bytes = λ key b hk hb. (block-xor b (toyBlock key) hb (toy-block key hk)) .bytes;
       secondHalfBack-bytes = λ key b hk hb. hb .bytes;
-      firstHalf-undone = λ key b hk hb. xorBytes-cancel b key (hb .long ∙ sym (hk .long));
-      firstHalfBack-undone = λ key b hk hb. xorBytes-cancel b key (hb .long ∙ sym (hk .long));
+      firstHalf-undone = twice;
+      firstHalfBack-undone = twice;
       secondHalf-undone = λ key b hk hb. refl;
       secondHalfBack-undone = λ key b hk hb. refl;
     }
 
 -- to unfold this is to unfold all that a small case computes by
 unfoldable pub computed : Unit {0}
-unfolding xorBytes firstBlocks same concat num lowBytes bytesOf wordsOf timesX jump carry shiftLeft reduction blocksOf padded encrypt startMask middletext written pass unbroken recordOf ivPart cipherPart tagPart tagFrom unbrokenTag sealedRecord decide not16 unaligned beyond anyBeyond apart none notWhole notSealed zeroMask unalignedRun blocksOfRun outcomeBy joined joinedOnto joinedAll joinTwo joinList passFrom runRecord sealRun checkRun closingTag close test openSealed openRows notPadded orEmpty unpadded unpadFrom plaintextOf decrypted sourceOf ivOf textOf lastKind allBlocks Fits Cut runsFrom blocksOfRuns runsIn recordIn bytesIn isRecorded runsOf bytesOfSegments blocksIn consecutive AllRecorded Allowed mergeBy recordBy headOr firstRun empties start roomOf outcomeOfRun runOutcome answerOf after afterAll EachCall whole wholeTag recordOfSegments ciphertextOfSegment Expected TestedAs
+unfolding xorBytes firstBlocks same concat num lowBytes bytesOf wordsOf timesX jump carry shiftLeft reduction blocksOf padded keyBlock encrypt startMask middletext written pass unbroken recordOf ivPart cipherPart tagPart tagFrom unbrokenTag sealedRecord decide notKey not16 unaligned beyond anyBeyond apart none notWhole notSealed zeroMask unalignedRun blocksOfRun outcomeBy joined joinedOnto joinedAll joinTwo joinList passFrom runRecord sealRun checkRun closingTag close test openSealed openRows notPadded orEmpty unpadded unpadFrom plaintextOf decrypted sourceOf ivOf textOf lastKind allBlocks Fits Cut runsFrom blocksOfRuns runsIn recordIn bytesIn isRecorded runsOf bytesOfSegments blocksIn consecutive AllRecorded Allowed mergeBy recordBy headOr firstRun empties start roomOf outcomeOfRun runOutcome answerOf after afterAll EachCall whole wholeTag recordOfSegments ciphertextOfSegment Expected TestedAs
 computed = tt
 
 abbrev pub aKey : List ℕ
 aKey = replicate 16 1
+
+pub aKey-is : Key aKey
+aKey-is = record { size = short refl; bytes = bytes-by aKey tt }
+
+-- one of 32 bytes: it lends the first 16, and the cipher adds the last 16
+abbrev pub aLongKey : List ℕ
+aLongKey = replicate 16 1 ++ replicate 16 9
+
+pub aLongKey-is : Key aLongKey
+aLongKey-is = record { size = long refl; bytes = bytes-by aLongKey tt }
 
 abbrev pub anIv : List ℕ
 anIv = replicate 16 2
@@ -55,7 +86,7 @@ onePiece = record { key = aKey; work = sealing anIv []; pieces = [] ∷ [] }
 
 pub onePiece-formed : WellFormed onePiece
 unfolding computed
-onePiece-formed = record { key-long = refl; key-bytes = bytes-by aKey tt; iv-bytes = bytes-by anIv tt; text-bytes = bytes-by [] tt; fits = (refl, lit≤ tt); cut = tt; pieces-are = refl }
+onePiece-formed = record { key-is = aKey-is; iv-bytes = bytes-by anIv tt; text-bytes = bytes-by [] tt; fits = (refl, lit≤ tt); cut = tt; pieces-are = refl }
 
 -- the same under a key of zeros; and under an IV that is the key, so that step 1 comes to zero and the key is the start mask
 abbrev pub zeroKey : Setting
@@ -63,14 +94,22 @@ zeroKey = record { key = zeroBlock; work = sealing anIv []; pieces = [] ∷ [] }
 
 pub zeroKey-formed : WellFormed zeroKey
 unfolding computed
-zeroKey-formed = record { key-long = refl; key-bytes = bytes-by zeroBlock tt; iv-bytes = bytes-by anIv tt; text-bytes = bytes-by [] tt; fits = (refl, lit≤ tt); cut = tt; pieces-are = refl }
+zeroKey-formed = record { key-is = record { size = short refl; bytes = bytes-by zeroBlock tt }; iv-bytes = bytes-by anIv tt; text-bytes = bytes-by [] tt; fits = (refl, lit≤ tt); cut = tt; pieces-are = refl }
 
 abbrev pub replaced : Setting
 replaced = record { key = aKey; work = sealing aKey []; pieces = [] ∷ [] }
 
 pub replaced-formed : WellFormed replaced
 unfolding computed
-replaced-formed = record { key-long = refl; key-bytes = bytes-by aKey tt; iv-bytes = bytes-by aKey tt; text-bytes = bytes-by [] tt; fits = (refl, lit≤ tt); cut = tt; pieces-are = refl }
+replaced-formed = record { key-is = aKey-is; iv-bytes = bytes-by aKey tt; text-bytes = bytes-by [] tt; fits = (refl, lit≤ tt); cut = tt; pieces-are = refl }
+
+-- a key of 32 bytes under the IV that is its last 16: step 1 comes to zero again, and the first 16 are the start mask
+abbrev pub longReplaced : Setting
+longReplaced = record { key = aLongKey; work = sealing (replicate 16 9) []; pieces = [] ∷ [] }
+
+pub longReplaced-formed : WellFormed longReplaced
+unfolding computed
+longReplaced-formed = record { key-is = aLongKey-is; iv-bytes = bytes-by (replicate 16 9) tt; text-bytes = bytes-by [] tt; fits = (refl, lit≤ tt); cut = tt; pieces-are = refl }
 
 -- the sealed record of the empty message with some tag, its ciphertext in one piece: the tag is 7 in each byte (proofs/Refuted.antt)
 abbrev pub oneText : List ℕ
@@ -81,7 +120,7 @@ oneChecked byte = record { key = aKey; work = checking (anIv ++ (oneText ++ repl
 
 pub oneChecked-formed : (byte : ℕ) → WellFormed (oneChecked byte)
 unfolding computed
-oneChecked-formed byte = record { key-long = refl; key-bytes = bytes-by aKey tt; iv-bytes = bytes-by anIv tt; text-bytes = bytes-by oneText tt; fits = (lit≤ tt, lit≤ tt, refl); cut = refl; pieces-are = refl }
+oneChecked-formed byte = record { key-is = aKey-is; iv-bytes = bytes-by anIv tt; text-bytes = bytes-by oneText tt; fits = (lit≤ tt, lit≤ tt, refl); cut = refl; pieces-are = refl }
 
 -- a ciphertext of two blocks in two pieces
 abbrev pub twoChecked : Setting
@@ -89,7 +128,7 @@ twoChecked = record { key = aKey; work = checking (replicate 64 7); pieces = rep
 
 pub twoChecked-formed : WellFormed twoChecked
 unfolding computed
-twoChecked-formed = record { key-long = refl; key-bytes = bytes-by aKey tt; iv-bytes = bytes-by (replicate 16 7) tt; text-bytes = bytes-by (replicate 32 7) tt; fits = (lit≤ tt, lit≤ tt, refl); cut = (refl, refl); pieces-are = refl }
+twoChecked-formed = record { key-is = aKey-is; iv-bytes = bytes-by (replicate 16 7) tt; text-bytes = bytes-by (replicate 32 7) tt; fits = (lit≤ tt, lit≤ tt, refl); cut = (refl, refl); pieces-are = refl }
 
 -- 32 bytes in three pieces: a block, a block, and nothing but the padding
 abbrev pub threePieces : Setting
@@ -102,4 +141,4 @@ threePieces =
 
 pub threePieces-formed : WellFormed threePieces
 unfolding computed
-threePieces-formed = record { key-long = refl; key-bytes = bytes-by aKey tt; iv-bytes = bytes-by anIv tt; text-bytes = bytes-by (replicate 16 3 ++ (replicate 16 4 ++ [])) tt; fits = (refl, lit≤ tt); cut = (refl, (refl, tt)); pieces-are = refl }
+threePieces-formed = record { key-is = aKey-is; iv-bytes = bytes-by anIv tt; text-bytes = bytes-by (replicate 16 3 ++ (replicate 16 4 ++ [])) tt; fits = (refl, lit≤ tt); cut = (refl, (refl, tt)); pieces-are = refl }

@@ -1,5 +1,5 @@
 -- The statements of the demands are not empty: a list of calls over a message that is allowed, with four refused calls, an empty run and a
--- join of a list; one over a ciphertext; a pair that is left out, and its neighbours, which are not; and records that are opened, refused
+-- join of a list; one over a ciphertext; one under a key of 32 bytes; a pair that is left out, and its neighbours, which are not; and records that are opened, refused
 -- with 6 and refused with 7.
 use mathlib.Core.Path.{_≡_, refl}
 use mathlib.Core.Logic.{inl, inr}
@@ -15,7 +15,7 @@ use Rattle.mode.specs.Calls.{middle, last, number, sealRun, callsOf, ope
 use Rattle.mode.specs.Parallel.{sealing, Setting, WellFormed, Run, Segment, recorded, blocksIn, Call, runAt, joinPair, joinMany, Allowed, start, answerOf, after, afterAll, EachCall}
 use Rattle.mode.specs.Demands.{Agrees}
 use Rattle.mode.proofs.Demand3.{demand3}
-use Rattle.mode.proofs.Toy.{toy, toy-lawful, computed, aKey, anIv, zeroKey, zeroKey-formed, twoChecked}
+use Rattle.mode.proofs.Toy.{toy, toy-lawful, computed, aKey, aKey-is, aLongKey, aLongKey-is, anIv, zeroKey, zeroKey-formed, twoChecked}
 
 -- ---- over a message
 
@@ -31,7 +31,7 @@ fourPieces =
 fourPieces-formed : WellFormed fourPieces
 unfolding computed
 fourPieces-formed =
-    record { key-long = refl; key-bytes = bytes-by aKey tt; iv-bytes = bytes-by anIv tt; text-bytes = bytes-by (replicate 16 3 ++ (replicate 16 4 ++ replicate 5 5)) tt; fits = (refl, lit≤ tt); cut = (refl, (refl, (refl, tt))); pieces-are = refl }
+    record { key-is = aKey-is; iv-bytes = bytes-by anIv tt; text-bytes = bytes-by (replicate 16 3 ++ (replicate 16 4 ++ replicate 5 5)) tt; fits = (refl, lit≤ tt); cut = (refl, (refl, (refl, tt))); pieces-are = refl }
 
 -- short of a byte; then with room; the last run before the others; a list out of order; the empty list; the empty run; one place twice;
 -- two neighbours; a list of one; the third run; then all that is left as a list
@@ -94,6 +94,54 @@ checks-allowed : EachCall (callsOf toy) twoChecked Allowed (start twoChecked) ch
 unfolding computed
 checks-allowed = ((lit< tt, refl), ((lit< tt, refl), (((refl, (refl, tt)), inr refl), (((refl, (refl, tt)), inl refl), tt))))
 
+-- ---- under a key of 32 bytes: 21 bytes in two pieces, the second first; short of a byte; then the pair
+
+abbrev longKeyed : Setting
+longKeyed = record { key = aLongKey; work = sealing anIv (replicate 16 3 ++ replicate 5 5); pieces = replicate 16 3 ∷ replicate 5 5 ∷ [] }
+
+longKeyed-formed : WellFormed longKeyed
+unfolding computed
+longKeyed-formed =
+    record { key-is = aLongKey-is; iv-bytes = bytes-by anIv tt; text-bytes = bytes-by (replicate 16 3 ++ replicate 5 5) tt; fits = (refl, lit≤ tt); cut = (refl, tt); pieces-are = refl }
+
+abbrev longCalls : List Call
+longCalls = runAt 1 16 ∷ runAt 0 15 ∷ runAt 0 16 ∷ joinPair 0 1 ∷ []
+
+long-allowed : EachCall (callsOf toy) longKeyed Allowed (start longKeyed) longCalls
+unfolding computed
+long-allowed = ((lit< tt, refl), ((lit< tt, refl), ((lit< tt, refl), (((refl, (refl, tt)), inl refl), tt))))
+
+long-agrees : Agrees toy (callsOf toy) longKeyed longCalls (afterAll (callsOf toy) longKeyed (start longKeyed) longCalls)
+long-agrees = demand3 toy toy-lawful longKeyed (unfold computed in refl) longKeyed-formed longCalls long-allowed
+
+long-left : (rs : List Run) × (r : RunRecord) × (bytes : List ℕ) × (afterAll (callsOf toy) longKeyed (start longKeyed) longCalls ≡ recorded rs r bytes ∷ [])
+unfolding computed
+long-left = (_, _, _, refl)
+
+-- the last 16 bytes encrypt: the start mask is 2 + 9, and the middletext that + 3 + 9
+long-sealed : (sealRun inWords toy aLongKey anIv 0 middle (replicate 16 3) 16) .answer ≡ given (record { first = 0; count = 1; preauthenticator = record { high = 0x0101010101010101; low = 0x0101010101010101 } })
+unfolding computed
+long-sealed = refl
+
+-- the first 16 take the place of a start mask of zero: the middletext is 1 + 3 + 9
+long-replaced-sealed : (sealRun inWords toy aLongKey (replicate 16 9) 0 middle (replicate 16 3) 16) .answer ≡ given (record { first = 0; count = 1; preauthenticator = record { high = 0x0b0b0b0b0b0b0b0b; low = 0x0b0b0b0b0b0b0b0b } })
+unfolding computed
+long-replaced-sealed = refl
+
+-- so it is refused with 10 only where the first 16 are zero; the last 16 may be
+long-zero-refused : (sealRun inWords toy (zeroBlock ++ replicate 16 9) (replicate 16 9) 0 last [] 16) .answer ≡ refused 10
+unfolding computed
+long-zero-refused = refl
+
+last-zero-sealed : number ((sealRun inWords toy (replicate 16 9 ++ zeroBlock) zeroBlock 0 last [] 16) .answer) ≡ 0
+unfolding computed number
+last-zero-sealed = refl
+
+-- a key of 24 bytes is refused with 1
+between-refused : (sealRun inWords toy (replicate 24 1) anIv 0 last [] 16) .answer ≡ refused 1
+unfolding computed
+between-refused = refl
+
 -- ---- a zero start mask: over this cipher, that of the zero key and the zero IV
 
 -- refused with 10, an empty run too
@@ -123,6 +171,15 @@ sealed = sealedRecord toy aKey anIv (5 ∷ 6 ∷ 7 ∷ [])
 opens : (openSealed toy aKey sealed 16) .answer ≡ given (5 ∷ 6 ∷ 7 ∷ [])
 unfolding computed
 opens = refl
+
+-- the same under the key of 32 bytes, which the key of its first 16 does not open
+long-opens : (openSealed toy aLongKey (sealedRecord toy aLongKey anIv (5 ∷ 6 ∷ 7 ∷ [])) 16) .answer ≡ given (5 ∷ 6 ∷ 7 ∷ [])
+unfolding computed
+long-opens = refl
+
+first-block-opens-not : (openSealed toy aKey (sealedRecord toy aLongKey anIv (5 ∷ 6 ∷ 7 ∷ [])) 16) .answer ≡ refused 6
+unfolding computed
+first-block-opens-not = refl
 
 flipped : (openSealed toy aKey (take 47 sealed ++ (bitXor (getD sealed 47 0) 1 ∷ [])) 16) .answer ≡ refused 6
 unfolding computed

@@ -9,15 +9,18 @@ use lib.ListN.{length}
 use lib.Dec.{leb}
 use Rattle.blocks.specs.Bytes.{xorBytes, Block, same}
 use Rattle.blocks.proofs.XorBytes.{xorBytes-zeros}
-use Rattle.mode.specs.Mode.{Cipher, Lawful, RunRecord, zeroBlock, encrypt, startMask}
+use Rattle.fips197.specs.Aes.{KeyLength, Key}
+use Rattle.mode.specs.Mode.{Cipher, Lawful, RunRecord, zeroBlock, keyBlock, encrypt, startMask}
 use Rattle.mode.specs.Table.{Answer, decide, anyBeyond, apart, none, zeroMask}
 use Rattle.mode.specs.Calls.{sealRun, checkRun, joinList, close, test, seal, openRows, openSealed, callsOf}
 use Rattle.mode.specs.Parallel.{ivOf, Setting, WellFormed, Run, Segment, empties, isRecorded, segment, Call, runAt, joinPair, joinMany, AllRecorded, Allowed, mergeBy, recordBy, start, roomOf, runOutcome, answerOf, after, afterAll, EachCall}
 use Rattle.mode.specs.Demands.{Refuses, ciphertextOfSegment, ZeroMask, zeroMaskIv, without, AsBefore, RunRefused, ZeroMaskRack}
+use Rattle.mode.proofs.Keys.{is-key}
 use Rattle.mode.proofs.Rows.{not-too-long}
 use Rattle.mode.proofs.Decisions.{outcome-refuses}
 use Rattle.mode.proofs.Blocks.{aligned}
-use Rattle.mode.proofs.Bytes.{bytes-zeros}
+use Rattle.mode.proofs.Halves.{first-block, first-back, second-back}
+use Rattle.mode.proofs.InWords.{block-zero}
 use Rattle.mode.proofs.Runs.{is16, within}
 use Rattle.mode.proofs.Segments.{not-both}
 use Rattle.mode.proofs.Same.{same-true, same-self}
@@ -27,85 +30,77 @@ use Rattle.mode.proofs.Demand3.{start-inv, answerBy, run-is}
 
 -- step 1's sum, before its replacement
 abbrev sumOf : Cipher → List ℕ → List ℕ → List ℕ
-sumOf c key iv = xorBytes (encrypt c key (xorBytes iv key)) key
+sumOf c key iv = xorBytes (encrypt c key (xorBytes iv (keyBlock key))) (keyBlock key)
 
--- a key that is not zero has no such IV
-pub key-not-zero : (c : Cipher) (key iv : List ℕ) → same key zeroBlock ≡ false → zeroMask c key iv ≡ false
+-- a key whose first 16 bytes are not zero has no such IV
+pub key-not-zero : (c : Cipher) (key iv : List ℕ) → same (keyBlock key) zeroBlock ≡ false → zeroMask c key iv ≡ false
 unfolding zeroMask startMask
 key-not-zero c key iv h = by (same (sumOf c key iv) zeroBlock) refl
   where
-    by : (t : Bool) → same (sumOf c key iv) zeroBlock ≡ t → same (cond t key (sumOf c key iv)) zeroBlock ≡ false
+    by : (t : Bool) → same (sumOf c key iv) zeroBlock ≡ t → same (cond t (keyBlock key) (sumOf c key iv)) zeroBlock ≡ false
     by true e = h
     by false e = e
 
 module _ (c : Cipher) (laws : Lawful c) where
-  encrypted-long : (key b : List ℕ) → length key ≡ 16 → length b ≡ 16 → length (encrypt c key b) ≡ 16
+  encrypted-long : (key b : List ℕ) → KeyLength key → length b ≡ 16 → length (encrypt c key b) ≡ 16
   unfolding encrypt
   encrypted-long key b hk hb = laws .secondHalf-long key (c .firstHalf key b) hk (laws .firstHalf-long key b hk hb)
 
-  -- the sum under the zero key
-  sum-is : (key iv : List ℕ) → length key ≡ 16 → length iv ≡ 16 → key ≡ zeroBlock → sumOf c key iv ≡ encrypt c key iv
+  -- the sum where nothing is added
+  sum-is : (key iv : List ℕ) → KeyLength key → length iv ≡ 16 → keyBlock key ≡ zeroBlock → sumOf c key iv ≡ encrypt c key iv
   sum-is key iv hk hi z =
-      ap (λ (v : List ℕ). xorBytes (encrypt c key v) key) (ap (xorBytes iv) z ∙ xorBytes-zeros 16 iv hi)
-      ∙ ap (xorBytes (encrypt c key iv)) z
+      ap (λ (k : List ℕ). xorBytes (encrypt c key (xorBytes iv k)) k) z
+      ∙ ap (λ (v : List ℕ). xorBytes (encrypt c key v) zeroBlock) (xorBytes-zeros 16 iv hi)
       ∙ xorBytes-zeros 16 (encrypt c key iv) (encrypted-long key iv hk hi)
 
-  exactly : (key iv : List ℕ) → length key ≡ 16 → length iv ≡ 16 → (zeroMask c key iv ≡ true) ↔ ((key ≡ zeroBlock) × (encrypt c key iv ≡ zeroBlock))
+  exactly : (key iv : List ℕ) → KeyLength key → length iv ≡ 16
+      → (zeroMask c key iv ≡ true) ↔ ((keyBlock key ≡ zeroBlock) × (encrypt c key iv ≡ zeroBlock))
   unfolding zeroMask startMask
   exactly key iv hk hi = (λ e. to (same sum zeroBlock) refl e, λ h. from h)
     where
+      lent : List ℕ
+      lent = keyBlock key
+
       sum : List ℕ
       sum = sumOf c key iv
 
-      to : (t : Bool) → same sum zeroBlock ≡ t → same (cond t key sum) zeroBlock ≡ true → (key ≡ zeroBlock) × (encrypt c key iv ≡ zeroBlock)
+      to : (t : Bool) → same sum zeroBlock ≡ t → same (cond t lent sum) zeroBlock ≡ true → (lent ≡ zeroBlock) × (encrypt c key iv ≡ zeroBlock)
       to true s e =
-          let k = same-true key zeroBlock e in
+          let k = same-true lent zeroBlock e in
           (k, sym (sum-is key iv hk hi k) ∙ same-true sum zeroBlock s)
       to false s e = not-both (sym s ∙ e)
 
-      either : (t : Bool) → key ≡ zeroBlock → sum ≡ zeroBlock → cond t key sum ≡ zeroBlock
+      either : (t : Bool) → lent ≡ zeroBlock → sum ≡ zeroBlock → cond t lent sum ≡ zeroBlock
       either true k z = k
       either false k z = z
 
-      from : (key ≡ zeroBlock) × (encrypt c key iv ≡ zeroBlock) → same (cond (same sum zeroBlock) key sum) zeroBlock ≡ true
+      from : (lent ≡ zeroBlock) × (encrypt c key iv ≡ zeroBlock) → same (cond (same sum zeroBlock) lent sum) zeroBlock ≡ true
       from h = ap (λ (m : List ℕ). same m zeroBlock) (either (same sum zeroBlock) (h .0) (sum-is key iv hk hi (h .0) ∙ h .1)) ∙ same-self zeroBlock
 
-  zero-block : Block zeroBlock
-  zero-block = record { long = refl; bytes = bytes-zeros 16 }
+  module _ (key : List ℕ) (kb : Key key) where
+    -- the cipher run backwards on the zero block, half by half
+    half-back : Block (c .secondHalfBack key zeroBlock)
+    half-back = second-back c laws key kb zeroBlock block-zero
 
-  -- the cipher run backwards on the zero block, half by half
-  half-back : Block (c .secondHalfBack zeroBlock zeroBlock)
-  half-back =
-      record {
-        long = laws .secondHalfBack-long zeroBlock zeroBlock refl refl;
-        bytes = laws .secondHalfBack-bytes zeroBlock zeroBlock zero-block zero-block;
-      }
+    iv-block : Block (zeroMaskIv c key)
+    iv-block = first-back c laws key kb (c .secondHalfBack key zeroBlock) half-back
 
-  iv-block : Block (zeroMaskIv c)
-  iv-block =
-      let h = c .secondHalfBack zeroBlock zeroBlock in
-      record { long = laws .firstHalfBack-long zeroBlock h refl (half-back .long); bytes = laws .firstHalfBack-bytes zeroBlock h zero-block half-back }
+    one-iv : keyBlock key ≡ zeroBlock → zeroMask c key (zeroMaskIv c key) ≡ true
+    one-iv z = (exactly key (zeroMaskIv c key) (kb .size) (iv-block .long)) .1 (z, forwards)
+      where
+        forwards : encrypt c key (zeroMaskIv c key) ≡ zeroBlock
+        forwards =
+            unfold encrypt in
+            (ap (c .secondHalf key) (laws .firstHalfBack-undone key (c .secondHalfBack key zeroBlock) kb half-back) ∙ laws .secondHalfBack-undone key zeroBlock kb block-zero)
 
-  one-iv : zeroMask c zeroBlock (zeroMaskIv c) ≡ true
-  one-iv = (exactly zeroBlock (zeroMaskIv c) refl (iv-block .long)) .1 (refl, forwards)
-    where
-      forwards : encrypt c zeroBlock (zeroMaskIv c) ≡ zeroBlock
-      forwards =
-          unfold encrypt in
-          (ap (c .secondHalf zeroBlock) (laws .firstHalfBack-undone zeroBlock (c .secondHalfBack zeroBlock zeroBlock) zero-block half-back)
-          ∙ laws .secondHalfBack-undone zeroBlock zeroBlock zero-block zero-block)
-
-  no-other : (iv : List ℕ) → Block iv → zeroMask c zeroBlock iv ≡ true → iv ≡ zeroMaskIv c
-  no-other iv h e =
-      sym (laws .firstHalf-undone zeroBlock iv zero-block h)
-      ∙ ap (c .firstHalfBack zeroBlock)
-      (sym (laws .secondHalf-undone zeroBlock (c .firstHalf zeroBlock iv) zero-block first) ∙ ap (c .secondHalfBack zeroBlock) zeroed)
-    where
-      first : Block (c .firstHalf zeroBlock iv)
-      first = record { long = laws .firstHalf-long zeroBlock iv refl (h .long); bytes = laws .firstHalf-bytes zeroBlock iv zero-block h }
-
-      zeroed : c .secondHalf zeroBlock (c .firstHalf zeroBlock iv) ≡ zeroBlock
-      zeroed = unfold encrypt in ((exactly zeroBlock iv refl (h .long)) .0 e .1)
+    no-other : (iv : List ℕ) → Block iv → zeroMask c key iv ≡ true → iv ≡ zeroMaskIv c key
+    no-other iv h e =
+        sym (laws .firstHalf-undone key iv kb h)
+        ∙ ap (c .firstHalfBack key)
+        (sym (laws .secondHalf-undone key (c .firstHalf key iv) kb (first-block c laws key kb iv h)) ∙ ap (c .secondHalfBack key) zeroed)
+      where
+        zeroed : c .secondHalf key (c .firstHalf key iv) ≡ zeroBlock
+        zeroed = unfold encrypt in ((exactly key iv (kb .size) (h .long)) .0 e .1)
 
 -- ---- every call refuses them
 
@@ -114,14 +109,14 @@ unfolding decide seal openSealed openRows sealRun checkRun close test
 zero-mask c laws =
     record {
       exactly = exactly c laws;
-      one-iv = (iv-block c laws, one-iv c laws);
-      no-other = no-other c laws;
-      of-seal = λ key iv message room z hk hi hm. outcome-refuses _ _ room 10 (rw (is16 key hk, is16 iv hi, not-too-long message hm, z));
-      of-open = λ key sealed room z hk hs. outcome-refuses _ _ room 10 (rw (is16 key hk, hs, z));
-      of-seal-run = λ key iv first kind bytes room z hk hi ha hb. outcome-refuses _ _ room 10 (rw (is16 key hk, is16 iv hi, ha, within first _ hb, z));
-      of-check-run = λ key iv first bytes z hk hi ha hb. rw (is16 key hk, is16 iv hi, aligned bytes ha, within first _ hb, z);
-      of-close = λ key iv r z hk hi hb hw. rw (is16 key hk, is16 iv hi, within (r .first) (r .count) hb, hw, z);
-      of-test = λ key iv r tag z hk hi ht hb hw. rw (is16 key hk, is16 iv hi, is16 tag ht, within (r .first) (r .count) hb, hw, z);
+      one-iv = λ key kb z. (iv-block c laws key kb, one-iv c laws key kb z);
+      no-other = λ key iv kb. no-other c laws key kb iv;
+      of-seal = λ key iv message room z hk hi hm. outcome-refuses _ _ room 10 (rw (is-key key hk, is16 iv hi, not-too-long message hm, z));
+      of-open = λ key sealed room z hk hs. outcome-refuses _ _ room 10 (rw (is-key key hk, hs, z));
+      of-seal-run = λ key iv first kind bytes room z hk hi ha hb. outcome-refuses _ _ room 10 (rw (is-key key hk, is16 iv hi, ha, within first _ hb, z));
+      of-check-run = λ key iv first bytes z hk hi ha hb. rw (is-key key hk, is16 iv hi, aligned bytes ha, within first _ hb, z);
+      of-close = λ key iv r z hk hi hb hw. rw (is-key key hk, is16 iv hi, within (r .first) (r .count) hb, hw, z);
+      of-test = λ key iv r tag z hk hi ht hb hw. rw (is-key key hk, is16 iv hi, is16 tag ht, within (r .first) (r .count) hb, hw, z);
     }
 
 -- ---- every other pair: a row that does not hold may be left out
