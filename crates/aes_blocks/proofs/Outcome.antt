@@ -9,6 +9,8 @@ use lib.ListN.{length, drop}
 use borrow.Author.Tests.{eqb-true, eq-eqb, ne-eqb, lt-ltb, le-ltb, ltb-false, not-false}
 use Rattle.blocks.specs.Bytes.{zeros}
 use Rattle.blocks.proofs.Zeros.{drop-zeros}
+use Rattle.fips197.specs.Aes.{KeyLength, notKey}
+use Rattle.fips197.proofs.Keys.{has-key}
 use Rattle.aes_blocks.specs.EachBlock.{each, refusal, output}
 
 -- ---- the rows, as the code tests them
@@ -23,28 +25,28 @@ agrees : (a b : ℕ) → a ≡ b → not (eqb a b) ≡ false
 agrees a b h = ap not (eq-eqb a b h)
 
 module _ (key text : List ℕ) (room : ℕ) where
-  pub refuses-1 : (length key ≡ 16 → ⊥) → refusal key text room ≡ 1
+  pub refuses-1 : notKey key ≡ true → refusal key text room ≡ 1
   unfolding refusal
-  refuses-1 h = row _ true _ _ (differs _ _ h)
+  refuses-1 h = row _ true _ _ h
 
-  module _ (k : length key ≡ 16) where
+  module _ (k : notKey key ≡ false) where
     pub refuses-3 : (length text % 16 ≡ 0 → ⊥) → refusal key text room ≡ 3
     unfolding refusal
-    refuses-3 h = row _ false _ _ (agrees _ _ k) ∙ row _ true _ _ (differs _ _ h)
+    refuses-3 h = row _ false _ _ k ∙ row _ true _ _ (differs _ _ h)
 
     module _ (t : length text % 16 ≡ 0) where
       pub refuses-5 : room < length text → refusal key text room ≡ 5
       unfolding refusal
-      refuses-5 h = row _ false _ _ (agrees _ _ k) ∙ row _ false _ _ (agrees _ _ t) ∙ row _ true _ _ (lt-ltb _ _ h)
+      refuses-5 h = row _ false _ _ k ∙ row _ false _ _ (agrees _ _ t) ∙ row _ true _ _ (lt-ltb _ _ h)
 
       pub refuses-none : length text ≤ room → refusal key text room ≡ 0
       unfolding refusal
-      refuses-none h = row _ false _ _ (agrees _ _ k) ∙ row _ false _ _ (agrees _ _ t) ∙ row _ false _ _ (le-ltb _ _ h)
+      refuses-none h = row _ false _ _ k ∙ row _ false _ _ (agrees _ _ t) ∙ row _ false _ _ (le-ltb _ _ h)
 
 -- ---- nothing refused
 
 pub record Passed (key text : List ℕ) (room : ℕ) : Type 0 where
-  pub key-long : length key ≡ 16
+  pub key-long : KeyLength key
   pub aligned : length text % 16 ≡ 0
   pub fits : length text ≤ room
 
@@ -57,9 +59,9 @@ passes false false false e = (refl, refl, refl)
 pub passed : (key text : List ℕ) (room : ℕ) → refusal key text room ≡ 0 → Passed key text room
 unfolding refusal
 passed key text room e =
-    let p = passes (not (eqb (length key) 16)) (not (eqb (length text % 16) 0)) (ltb room (length text)) e in
+    let p = passes (notKey key) (not (eqb (length text % 16) 0)) (ltb room (length text)) e in
     record {
-      key-long = eqb-true _ _ (not-false _ (p .0));
+      key-long = has-key key (p .0);
       aligned = eqb-true _ _ (not-false _ (p .1));
       fits = ltb-false _ _ (p .2);
     }

@@ -1,7 +1,7 @@
 -- The cipher of each direction.
 use mathlib.Core.List.{List}
 use Prim.Native.Nat.{ℕ}
-use Rattle.fips197.specs.Aes128.{encrypt, decrypt}
+use Rattle.fips197.specs.Aes.{encrypt, decrypt}
 -- as the code declares it
 use Rattle.aes_blocks.specs.declared.Direction.{Direction}
 use Rattle.aes_blocks.specs.declared.Direction.the-variants.{Encrypt, Decrypt}

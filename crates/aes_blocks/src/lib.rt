@@ -1,10 +1,10 @@
-// AES-128 of each block of a slice by itself, for programs in C and Rust: to compare it with others, and to measure it. It is no
+// AES-128 or AES-256 of each block of a slice by itself, for programs in C and Rust: to compare it with others, and to measure it. It is no
 // mode: equal blocks give equal blocks.
 ghost use mathlib.Core.Path.{_≡_};
 ghost use mathlib.Core.List.{_++_};
 ghost use Prim.Native.Nat.{_*_, _/_, _≤_};
 ghost use lib.ListN.{length, drop};
-ghost use Rattle.fips197.specs.Aes128.{encrypt, decrypt};
+ghost use Rattle.fips197.specs.Aes.{encrypt, decrypt};
 ghost use Rattle.groups.specs.Group.{blockAt, blockOf, Holds, inFront};
 ghost use Rattle.cipher.specs.Keys.{keyOf, Expanded};
 ghost use Rattle.aes_blocks.specs.EachBlock.{each, refusal as refusalOf, output};
@@ -76,7 +76,7 @@ fn each_block(direction: Direction, keys: &[u8; cipher::KEYS], text: &[u8], out:
 fn refusal(key: &[u8], text: &[u8], room: usize) -> u8
     ensures { λ n. ⌜ n ≡ refusalOf (now (key .entry)) (now (text .entry)) room ⌝ }
 {
-    if key.len() != 16 {
+    if cipher::not_key(key) {
         return 1;
     }
     if text.len() % 16 != 0 {
@@ -98,8 +98,7 @@ fn call(direction: Direction, key: &[u8], text: &[u8], out: &mut [u8]) -> u8
     if refused != 0 {
         return refused;
     }
-    let k = blocks::block::load(key, 0);
-    let keys = cipher::expand(k);
+    let keys = cipher::expand(key);
     each_block(direction, &keys, text, out);
     0
 }

@@ -16,7 +16,7 @@ use Rattle.blocks.proofs.Tab.{tab-ext, tab-self}
 use Rattle.fips197.specs.KeyExpansion.{word, rotWord, subWord, roundConstant, rcon, temp, nextWord, words, keyExpansion}
 use Rattle.fips197.specs.Aes.{KeyLength, short, long, nkOf, nrOf}
 use Rattle.fips197.proofs.KeyExpansion.{length-words, roundConstants, roundConstant-at}
-use Rattle.fips197.proofs.Lengths.{whole-words}
+use Rattle.fips197.proofs.Keys.{whole-words}
 use Rattle.aes_steps.specs.Schedule.{scheduleOf}
 use Rattle.aes_steps.specs.Words.{KeyWords, blank, begun}
 

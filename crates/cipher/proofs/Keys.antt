@@ -1,18 +1,17 @@
 -- The schedule of a key: the key stands in front of it, the number of rounds at its end, and its round keys are FIPS 197's.
-use mathlib.Core.Path.{_≡_, refl, sym, ap, ap₂, subst, _∙_}
-use mathlib.Core.Logic.{_⊎_, inl, inr}
+use mathlib.Core.Path.{_≡_, sym, ap, ap₂, subst, _∙_}
 use mathlib.Core.List.{List, [], _∷_, _++_, append-assoc}
 use Prim.Native.Nat.{ℕ, zero, suc, _+_, _-_, _*_, _≤_, _<_}
 use native.Mathlib.Omega.{arith}
-use lib.ListN.{length, getD, take, length-append, length-replicate}
-use lib.Seq.{take-append-le, take-all, getD-at}
+use lib.ListN.{length, take, length-append, length-take, length-replicate}
+use lib.Seq.{take-append-le, take-take, take-all, getD-at}
 use Rattle.blocks.specs.Bytes.{zeros, firstBlocks}
 use Rattle.blocks.proofs.Chunks.{blocks-front}
 use Rattle.fips197.specs.KeyExpansion.{nextWord, words, keyExpansion, roundKeys}
 use Rattle.fips197.specs.Aes.{KeyLength, short, long, nkOf, nrOf}
 use Rattle.fips197.specs.Aes as Aes
 use Rattle.fips197.proofs.KeyExpansion.{length-words}
-use Rattle.fips197.proofs.Lengths.{whole-words}
+use Rattle.fips197.proofs.Keys.{whole-words}
 use Rattle.aes_steps.specs.Schedule.{roundsIn, roundKeysIn, Schedule, scheduleOf}
 use Rattle.cipher.specs.Keys.{keyOf, Expanded, Expands}
 
@@ -23,7 +22,6 @@ front nk key (suc n) e =
     take-append-le (nk * 4) (words nk key n) (nextWord nk (words nk key n) (nk + n)) (omega (arith, length-words nk key n e)) ∙ front nk key n e
 
 module _ (key : List ℕ) (k : KeyLength key) where
-  -- 10 or 14 rounds
   few : nkOf key ≤ 8
   few = by k
     where
@@ -36,7 +34,7 @@ module _ (key : List ℕ) (k : KeyLength key) where
   length-expansion = length-words (nkOf key) key (4 * (nrOf key + 1) - nkOf key) (whole-words key k) ∙ omega arith
 
   -- all but the last byte
-  before-last : List ℕ
+  abbrev before-last : List ℕ
   before-last = keyExpansion (nkOf key) (nrOf key) key ++ zeros (240 - 16 * (nrOf key + 1))
 
   length-before : length before-last ≡ 240
@@ -96,7 +94,7 @@ pub first-16 : (keys : List ℕ) → Expanded keys → take 16 keys ≡ take 16 
 first-16 keys e = by (e .size)
   where
     enough : 16 ≤ length (keyOf keys) → take 16 keys ≡ take 16 (keyOf keys)
-    enough h = ?
+    enough h = sym (take-take 16 ((roundsIn keys - 6) * 4) keys (omega (arith, h, length-take ((roundsIn keys - 6) * 4) keys)))
 
     by : KeyLength (keyOf keys) → take 16 keys ≡ take 16 (keyOf keys)
     by (short l) = enough (omega arith)

@@ -3,7 +3,7 @@
 ghost use mathlib.Core.Path.{_≡_};
 ghost use Prim.Native.Nat.{_≤_};
 ghost use lib.ListN.{length, take};
-ghost use Rattle.fips197.specs.Aes.{KeyLength, encrypt as encryptOf, decrypt as decryptOf};
+ghost use Rattle.fips197.specs.Aes.{KeyLength, notKey, encrypt as encryptOf, decrypt as decryptOf};
 ghost use Rattle.cipher.specs.Keys.{keyOf, Expanded, Expands};
 ghost use Rattle.cipher.specs.Group.{Enciphered, Deciphered, Middletexts};
 
@@ -20,6 +20,13 @@ pub const ENGINE: u8 = TABLES;
 
 // The bytes of a key schedule: up to fifteen round keys, and the number of rounds.
 pub const KEYS: usize = aes_steps::schedule::BYTES;
+
+// Whether a key has neither 16 bytes nor 32.
+pub fn not_key(key: &[u8]) -> bool
+    ensures { λ b. ⌜ b ≡ notKey (now (key .entry)) ⌝ }
+{
+    (key.len() != 16) & (key.len() != 32)
+}
 
 // The key schedule of a key of 16 or 32 bytes.
 pub fn expand(key: &[u8]) -> [u8; KEYS]

@@ -3,8 +3,8 @@ use mathlib.Core.Path.{_≡_, sym, ap, _∙_}
 use mathlib.Core.List.{List}
 use Prim.Native.Nat.{ℕ}
 use Rattle.groups.specs.Group.{blockAt, Holds}
-use Rattle.fips197.specs.KeyExpansion.{keyExpansion}
-use Rattle.fips197.specs.Aes128.{firstHalf, invSecondHalf, encrypt, decrypt}
+use Rattle.aes_steps.specs.Schedule.{scheduleOf}
+use Rattle.fips197.specs.Aes.{firstHalf, invSecondHalf, encrypt, decrypt}
 use Rattle.engines.specs.Engines.{Agree, EnginesEqual}
 
 -- the same blocks, each taken through F
@@ -15,7 +15,7 @@ each-through n F a h h′ = record { at = λ i l. h .at i l ∙ ap F (a .at i l)
 pub engines-equal : EnginesEqual
 engines-equal =
     record {
-      schedules = λ key one other e e′. e .schedule .is ∙ ap (keyExpansion 4 10) (e .of ∙ sym (e′ .of)) ∙ sym (e′ .schedule .is);
+      schedules = λ key one other e e′. e .schedule .is ∙ ap scheduleOf (e .of ∙ sym (e′ .of)) ∙ sym (e′ .schedule .is);
       forwards =
           λ n key old old′ new new′ middle middle′ a e e′.
           (each-through n (firstHalf key) a (e .middletexts) (e′ .middletexts), each-through n (encrypt key) a (e .blocks) (e′ .blocks));

@@ -1,4 +1,4 @@
-// Any two engines are equal: specs/Engines has the theorem. Here it is brought to the code. `equal` runs two engines on the same key and the same
+// Any two engines are equal: specs/Engines has the theorem. Here it is brought to the code. `equal` runs two engines on the same key, of 16 or 32 bytes, and the same
 // blocks and compares all that they give, and is proved to answer true for every two numbers and every input. Its contract would also be met by
 // a function that looks at nothing, so what is compared is to be read here.
 ghost use mathlib.Core.Path.{_≡_};
@@ -7,6 +7,7 @@ ghost use Prim.Native.Nat.{_≤_};
 ghost use lib.ListN.{length};
 ghost use Rattle.blocks.specs.Bytes.{same as sameOf, zeros};
 ghost use Rattle.groups.specs.Group.{blockAt, inFront};
+ghost use Rattle.fips197.specs.Aes.{KeyLength};
 ghost use Rattle.cipher.specs.Keys.{Expanded};
 
 // ---- what is compared
@@ -40,7 +41,8 @@ fn same_blocks(x: &[u64; groups::WORDS], y: &[u64; groups::WORDS], n: usize) -> 
 
 // ---- two engines, by their numbers
 
-fn schedules(a: u8, b: u8, key: [u8; 16]) -> bool
+fn schedules(a: u8, b: u8, key: &[u8]) -> bool
+    requires { ⌜ KeyLength (now key) ⌝ }
     ensures { λ r. ⌜ r ≡ true ⌝ }
 {
     let one = cipher::by::expand(a, key);
@@ -133,11 +135,12 @@ fn middletexts(
 pub fn equal(
     a: u8,
     b: u8,
-    key: [u8; 16],
+    key: &[u8],
     block: [u8; 16],
     group: &[u64; groups::WORDS],
     n: usize,
 ) -> bool
+    requires { ⌜ KeyLength (now key) ⌝ }
     requires { ⌜ n ≤ 32 ⌝ }
     ensures { λ r. ⌜ r ≡ true ⌝ }
 {

@@ -11,7 +11,8 @@ use Rattle.fips197.specs.Cipher as C
 use Rattle.fips197.specs.Aes.{Key, nkOf, nrOf, keys, firstHalf, secondHalf, invFirstHalf, invSecondHalf, encrypt, decrypt}
 use Rattle.fips197.proofs.Rounds as R
 use Rattle.fips197.proofs.KeyExpansion.{blocks-roundKeys}
-use Rattle.fips197.proofs.Lengths.{whole-words, enough-keys}
+use Rattle.fips197.proofs.Keys.{whole-words}
+use Rattle.fips197.proofs.Lengths.{enough-keys}
 
 -- ---- the halves are the cipher
 

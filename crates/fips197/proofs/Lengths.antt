@@ -13,8 +13,9 @@ use Rattle.fips197.specs.State.{subBytes, invSubBytes, shiftRows, mixCol
 use Rattle.fips197.specs.KeyExpansion.{words, keyExpansion, roundKeys}
 use Rattle.fips197.specs.Cipher.{round, lastRound, invRound, invLastRound, rounds, invRounds}
 use Rattle.fips197.specs.Cipher as C
-use Rattle.fips197.specs.Aes.{KeyLength, short, long, nkOf, nrOf, keys, firstHalf, secondHalf, invFirstHalf, invSecondHalf}
+use Rattle.fips197.specs.Aes.{KeyLength, nkOf, nrOf, keys, firstHalf, secondHalf, invFirstHalf, invSecondHalf}
 use Rattle.fips197.proofs.KeyExpansion.{length-words}
+use Rattle.fips197.proofs.Keys.{whole-words}
 
 -- every element has 16
 abbrev pub AllLong : List (List ℕ) → Type 0
@@ -89,11 +90,6 @@ unfolding C.invSecondHalf invLastRound invSubBytes
 length-invSecondHalf h nr ks s = length-invRounds (slice (suc h) nr ks) (invLastRound s (getD ks nr [])) refl
 
 -- ---- those of AES, under a key of 16 or 32 bytes
-
--- a key has whole words
-pub whole-words : (key : List ℕ) → KeyLength key → length key ≡ nkOf key * 4
-whole-words key (short e) = rw e refl
-whole-words key (long e) = rw e refl
 
 pub enough-keys : (key : List ℕ) → nrOf key < length (keys key)
 unfolding keys roundKeys

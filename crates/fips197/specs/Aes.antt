@@ -3,8 +3,10 @@
 -- half of the rounds, 5 or 7, and what it yields is the middletext; the second half is the rounds after them. Each takes the key, then the
 -- block.
 use mathlib.Core.Path.{_≡_}
+use mathlib.Core.Bool.{Bool, not, _||_}
 use mathlib.Core.List.{List}
 use Prim.Native.Nat.{ℕ, _+_, _/_}
+use lib.Dec.{eqb}
 use lib.ListN.{length}
 use Rattle.blocks.specs.Bytes.{Bytes}
 use Rattle.fips197.specs.KeyExpansion.{roundKeys}
@@ -14,6 +16,10 @@ use Rattle.fips197.specs.Cipher as C
 pub data KeyLength (key : List ℕ) : Type 0 where
   short : length key ≡ 16 → KeyLength key
   long : length key ≡ 32 → KeyLength key
+
+-- whether it is any other
+unfoldable pub notKey : List ℕ → Bool
+notKey key = not (eqb (length key) 16 || eqb (length key) 32)
 
 -- 16 or 32 bytes
 pub record Key (key : List ℕ) : Type 0 where

@@ -21,7 +21,7 @@ use Rattle.mode.specs.Mode.{Cipher, Lawful, plaintext, ciphertext, zeroB
 use Rattle.mode.specs.Table.{Answer, refused, given, decide, NoneHolds, unaligned, tooLong, notSealed, zeroMask, longestMessage, longestSealed}
 use Rattle.mode.specs.Calls.{unpadded, notPadded, orEmpty, decrypted, plaintextOf, openRows, openSealed, seal, sealRows}
 use Rattle.mode.specs.Demands.{Gives, NonzeroMask, SealedFrom, Demand2a, Demand2b, OpensSealed, Demand2d}
-use Rattle.mode.proofs.Keys.{is-key}
+use Rattle.fips197.proofs.Keys.{is-key}
 use Rattle.mode.proofs.Rows.{not-too-long}
 use Rattle.mode.proofs.Decisions.{given-rows, passed-rows, outcome-answer, outcome-gives, outcome-given-bytes}
 use Rattle.mode.proofs.SealedLength.{sealed-length}

@@ -16,7 +16,7 @@ use Rattle.mode.specs.Table.{Answer, refused, given, decide, beyond, any
 use Rattle.mode.specs.Calls.{Kind, middle, last, blocksOfRun, unalignedRun, Outcome, outcomeBy, joinedOnto, joinedAll, joinTwo, joinList, closingTag, close, test, callsOf}
 use Rattle.mode.specs.Parallel.{Work, sealing, checking, sourceOf, ivOf, textOf, lastKind, allBlocks, Fits, Cut, Setting, WellFormed, Run, runsFrom, Segment, pending, recorded, blocksOfRuns, runsIn, recordIn, bytesIn, isRecorded, runsOf, bytesOfSegments, blocksIn, noSegment, segment, Call, runAt, joinPair, joinMany, consecutive, AllRecorded, recordsAt, Allowed, mergeBy, recordBy, headOr, firstRun, empties, start, roomOf, outcomeOfRun, runOutcome, answerOf, after, afterAll, EachCall}
 use Rattle.mode.specs.Demands.{NonzeroMask, whole, wholeTag, recordOfSegments, ciphertextOfSegment, ExpectedOfRun, ExpectedOfJoin, Expected, TestedAs, Whole, Demand3}
-use Rattle.mode.proofs.Keys.{is-key}
+use Rattle.fips197.proofs.Keys.{is-key}
 use Rattle.mode.proofs.Decisions.{outcome-gives, outcome-refuses}
 use Rattle.mode.proofs.Laws.{AllLong, mask-there}
 use Rattle.mode.proofs.Same.{same-true, same-self}

@@ -15,7 +15,7 @@ use Rattle.mode.specs.Mode.{Cipher, Lawful, Source, plaintext, ciphertex
 use Rattle.mode.specs.Table.{Answer, refused, given, decide, NoneHolds, notKey, not16, beyond, anyBeyond, apart, none, notWhole, zeroMask}
 use Rattle.mode.specs.Calls.{outcomeBy, unalignedRun, Kind, middle, blocksOfRun, joined, joinedOnto, joinedAll, joinTwo, joinTwoRows, joinList, joinListRows, passFrom, runRecord, sealRun, sealRunRows, checkRun, checkRunRows, closingTag, close, test}
 use Rattle.mode.specs.Demands.{Formed, EachFormed, inForm, mapAnswer, mapOutcome, SameIn, WordsAsBytes}
-use Rattle.mode.proofs.Keys.{has-key}
+use Rattle.fips197.proofs.Keys.{has-key}
 use Rattle.mode.proofs.Passed.{has-16}
 use Rattle.mode.proofs.Bytes.{run-blocks}
 use Rattle.mode.proofs.Halves.{start-block, preauthenticator-block}

@@ -9,7 +9,7 @@ use lib.ListN.{length}
 use borrow.Author.Tests.{eqb-true, ltb-false, not-false}
 use Rattle.fips197.specs.Aes.{KeyLength}
 use Rattle.mode.specs.Table.{firstRow, limit, notKey, not16, beyond}
-use Rattle.mode.proofs.Keys.{has-key}
+use Rattle.fips197.proofs.Keys.{has-key}
 
 -- the head of rows that do not hold, and the rows after it
 pub head-passed : (n : ℕ) (b : Bool) (rows : List (ℕ × Bool)) → firstRow ((suc n, b) ∷ rows) ≡ 0 → b ≡ false

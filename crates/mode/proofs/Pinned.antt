@@ -21,7 +21,8 @@ use Rattle.mode.specs.Table.{Answer, refused, given, decide, tableOrder,
 use Rattle.mode.specs.Calls.{Outcome, Kind, middle, last, outcomeBy, blocksOfRun, unalignedRun, seal, openSealed, openRows, unpadded, notPadded, orEmpty, plaintextOf, passFrom, runRecord, sealRun, checkRun, joinTwo, closingTag, close, test, Calls, callsOf}
 use Rattle.mode.specs.Parallel.{sealing, checking, ivOf, lastKind, textOf, Fits, Cut, Setting, WellFormed, Segment, isRecorded, segment, Call, runAt, joinPair, joinMany, consecutive, AllRecorded, recordsAt, Allowed, start, roomOf, runOutcome, afterAll, EachCall}
 use Rattle.mode.specs.Demands.{Gives, Refuses, InTable, NonzeroMask, Demand2a, Demand2d, Agrees, Demand3, ZeroMask, zeroMaskIv, without, AsBefore, Formed, inForm, mapAnswer, WordsAsBytes, RunRefused, ZeroMaskRack, JumpsTo, SignedJump}
-use Rattle.mode.proofs.Keys.{keyBlock-short, keyBlock-first, is-key, isnt-key, has-key}
+use Rattle.fips197.proofs.Keys.{is-key, isnt-key, has-key}
+use Rattle.mode.proofs.Keys.{keyBlock-short, keyBlock-first}
 use Rattle.mode.proofs.Rows.{is-whole}
 use Rattle.mode.proofs.Passed.{has-16}
 use Rattle.mode.proofs.Same.{same-true}

@@ -19,7 +19,7 @@ use Rattle.gf128.proofs.TimesX.{jump-xor, jump-add, length-jump, block-jump}
 use Rattle.mode.specs.Mode.{Cipher, Lawful, plaintext, ciphertext, RunRecord, inWords, zeroBlock, startMask, blocksOf}
 use Rattle.mode.specs.Table.{Answer, refused, given, decide, NoneHolds, beyond, anyBeyond, apart, limit, none}
 use Rattle.mode.specs.Calls.{joined, joinedOnto, joinedAll, joinList, blocksOfRun, outcomeBy, passFrom, runRecord, sealRun, sealRunRows, checkRun, checkRunRows}
-use Rattle.mode.proofs.Keys.{is-key}
+use Rattle.fips197.proofs.Keys.{is-key}
 use Rattle.mode.proofs.InWords.{same-record, block-zero, joined-block}
 use Rattle.mode.proofs.Blocks.{aligned}
 use Rattle.mode.proofs.Runs.{is16}

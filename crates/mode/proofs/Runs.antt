@@ -18,7 +18,7 @@ use Rattle.mode.specs.Mode.{Cipher, Lawful, Source, plaintext, ciphertex
 use Rattle.mode.specs.Table.{Answer, refused, given, decide, not16, beyond, zeroMask, limit}
 use Rattle.mode.specs.Calls.{unalignedRun, Kind, middle, last, blocksOfRun, outcomeBy, passFrom, runRecord, sealRun, sealRunRows, checkRun, callsOf}
 use Rattle.mode.specs.Parallel.{Work, sealing, checking, sourceOf, ivOf, Fits, Run, roomOf, outcomeOfRun}
-use Rattle.mode.proofs.Keys.{is-key}
+use Rattle.fips197.proofs.Keys.{is-key}
 use Rattle.mode.proofs.Laws.{AllLong, all-left, all-right, output-append, start-long, mask-there, middle-long, xor-long}
 use Rattle.mode.proofs.Blocks.{run-long}
 use Rattle.mode.proofs.InWords.{same-record}

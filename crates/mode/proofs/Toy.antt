@@ -18,7 +18,7 @@ use Rattle.mode.specs.Table.{decide, notKey, not16, unaligned, beyond, a
 use Rattle.mode.specs.Calls.{unalignedRun, blocksOfRun, outcomeBy, joined, joinedOnto, joinedAll, joinTwo, joinList, passFrom, runRecord, sealRun, checkRun, closingTag, close, test, openSealed, openRows, notPadded, orEmpty, unpadded, unpadFrom, plaintextOf, decrypted}
 use Rattle.mode.specs.Parallel.{sealing, checking, sourceOf, ivOf, textOf, lastKind, allBlocks, Fits, Cut, Setting, WellFormed, runsFrom, blocksOfRuns, runsIn, recordIn, bytesIn, isRecorded, runsOf, bytesOfSegments, blocksIn, consecutive, AllRecorded, Allowed, mergeBy, recordBy, headOr, firstRun, empties, start, roomOf, outcomeOfRun, runOutcome, answerOf, after, afterAll, EachCall}
 use Rattle.mode.specs.Demands.{whole, wholeTag, recordOfSegments, ciphertextOfSegment, Expected, TestedAs}
-use Rattle.mode.proofs.Keys.{at-least-16}
+use Rattle.fips197.proofs.Keys.{at-least-16}
 use Rattle.mode.proofs.Laws.{xor-long}
 
 -- the first half adds the last 16 bytes of the key, and the second changes nothing

@@ -15,7 +15,7 @@ use Rattle.mode.specs.Table.{Answer, decide, anyBeyond, apart, none, zer
 use Rattle.mode.specs.Calls.{sealRun, checkRun, joinList, close, test, seal, openRows, openSealed, callsOf}
 use Rattle.mode.specs.Parallel.{ivOf, Setting, WellFormed, Run, Segment, empties, isRecorded, segment, Call, runAt, joinPair, joinMany, AllRecorded, Allowed, mergeBy, recordBy, start, roomOf, runOutcome, answerOf, after, afterAll, EachCall}
 use Rattle.mode.specs.Demands.{Refuses, ciphertextOfSegment, ZeroMask, zeroMaskIv, without, AsBefore, RunRefused, ZeroMaskRack}
-use Rattle.mode.proofs.Keys.{is-key}
+use Rattle.fips197.proofs.Keys.{is-key}
 use Rattle.mode.proofs.Rows.{not-too-long}
 use Rattle.mode.proofs.Decisions.{outcome-refuses}
 use Rattle.mode.proofs.Blocks.{aligned}

@@ -9,6 +9,8 @@ use lib.IntN.{ℤ, natAbs}
 use lib.Dec.{eqb, ltb}
 use Rattle.blocks.specs.Bytes.{same}
 use Rattle.mode.specs.Mode.{Cipher, Form, zeroBlock, startMask}
+-- 1 (ticket P8): a key that is neither 16 bytes nor 32
+pub use Rattle.fips197.specs.Aes.{notKey}
 
 -- a refusal, by document 01's number, or what the call gives
 pub data Answer (A : Type 0) : Type 0 where
@@ -59,10 +61,6 @@ abbrev pub longestSealed : ℕ
 longestSealed = 16 * limit + 32
 
 -- ---- the conditions
-
--- 1 (ticket P8): a key that is neither 16 bytes nor 32
-unfoldable pub notKey : List ℕ → Bool
-notKey key = not (eqb (length key) 16 || eqb (length key) 32)
 
 -- 2, and 3 of a tag or a mask: not 16 bytes
 unfoldable pub not16 : List ℕ → Bool

@@ -8,7 +8,7 @@ use power::LastPower;
 ghost use mathlib.Core.Path.{_≡_};
 ghost use Prim.Native.Nat.{_+_};
 ghost use Rattle.mode.specs.Mode.{inWords};
-ghost use Rattle.mode.specs.Table.{firstRow, notKey};
+ghost use Rattle.mode.specs.Table.{firstRow};
 ghost use Rattle.mode.specs.Calls.{joined, joinTwo, joinTwoRows, recordAnswerOf, refusedRecord};
 ghost use Rattle.mode.specs.Powers.{Keeps, Joinable, joinKeeping};
 
@@ -125,13 +125,6 @@ impl RunRecord {
         let joined = self.join_keeping(right, LastPower::none());
         joined.answer
     }
-}
-
-// Refusal 1: a key has 16 bytes or 32.
-pub fn not_key(key: &[u8]) -> bool
-    ensures { λ b. ⌜ b ≡ notKey (now (key .entry)) ⌝ }
-{
-    (key.len() != 16) & (key.len() != 32)
 }
 
 // A refusal, with a blank record beside it.

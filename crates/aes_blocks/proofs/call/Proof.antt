@@ -3,7 +3,6 @@ use borrow.Author.Needs.{needs}
 use mathlib.Core.Path.{_≡_, sym, ap, _∙_}
 use native.Mathlib.Omega.{arith}
 use lib.ListN.{length}
-use lib.Seq.{take-all}
 use Rattle.aes_blocks.specs.EachBlock.{refusal}
 use Rattle.aes_blocks.specs.Direction.{cipherOf}
 use Rattle.aes_blocks.proofs.Outcome.{Passed, passed, refused-output, given-output}
@@ -33,15 +32,12 @@ returns c =
     let r = c .before in
     (at-room r, refused-output _ _ _ _ _ (r .before .before .before .clear .ensures) (λ z. c .if1 .taken (at-room r ∙ z)))
 
-load-requires : tie.Need-load-requires
-load-requires c κs = omega (arith, passes c .key-long)
-
 expand-requires : tie.Need-expand-requires
-expand-requires c κs = search needs
+expand-requires c κs = passes c .key-long
 
 each-block-requires : tie.Need-each-block-requires
 each-block-requires c κs =
-    let e = c .before .before .before .before in
+    let e = c .before .before .before in
     (c .before .before .expand .ensures .schedule, omega (arith, e .before .before .before .before .clear .kept .0, passes e .fits))
 
 same-length-2 : tie.Need-same-length-2
@@ -50,11 +46,11 @@ same-length-2 c = search needs
 returns-2 : tie.Need-returns-2
 returns-2 c =
     let x = c .before .before .before .before .before in
-    let e = x .before .before in
+    let e = x .before in
     let r = e .before in
     let a = r .before .before .before .before .before .before .before .before .args in
     let z = sym (at-room r) ∙ e .if1 .left in
-    let k = x .expand .ensures .of ∙ x .before .load .ensures ∙ take-all 16 (a .key .now) (omega (arith, passes e .key-long)) in
+    let k = x .expand .ensures .of in
     (sym z, given-output (cipherOf (a .direction)) (a .key .now) (a .text .now) (length (a .out .now)) _ _ _ k (r .before .before .before .clear .ensures) z (c .before .before .each-block .ensures))
 
 pub call-spec : {M : Type 1} → statement M
@@ -65,7 +61,6 @@ call-spec =
     refusal-requires
     same-length
     returns
-    load-requires
     expand-requires
     each-block-requires
     same-length-2

@@ -31,7 +31,7 @@ blocks-long : (c : tie.Start Inv-loop μ-loop) (i : ℕ) → i ≤ length (c .ar
 unfolding blockOf
 blocks-long c i h j l =
     let text = c .args .text .now in
-    length-cipher (c .args .direction) (keyOf (c .args .keys .now)) (take 16 (drop (j * 16) text)) (length-take-le 16 (c .args .keys .now) (omega (arith, c .pre .0 .long)))
+    length-cipher (c .args .direction) (keyOf (c .args .keys .now)) (take 16 (drop (j * 16) text)) (c .pre .0 .size)
     (length-take-le 16 (drop (j * 16) text) (omega (arith, length-drop (j * 16) text)))
 
 long-out : (c : tie.At-loop Inv-loop μ-loop) → length (c .loop .out) ≡ length (c .before .before .before .args .out .now)

@@ -3,9 +3,9 @@ use mathlib.Core.Path.{_≡_, refl}
 use mathlib.Core.Bool.{Bool, true, false, not, _&&_, _||_}
 use lib.Dec.{eqb}
 use lib.ListN.{length}
-use Rattle.mode.specs.Table.{notKey}
-use Rattle.mode.proofs.not_key.Statement.{statement}
-use Rattle.mode.proofs.not_key.Tie as tie
+use Rattle.fips197.specs.Aes.{notKey}
+use Rattle.cipher.proofs.not_key.Statement.{statement}
+use Rattle.cipher.proofs.not_key.Tie as tie
 
 neither : (a b : Bool) → (not a && not b) ≡ not (a || b)
 neither true b = refl
