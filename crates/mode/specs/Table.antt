@@ -10,7 +10,7 @@ use lib.Dec.{eqb, ltb}
 use Rattle.blocks.specs.Bytes.{same}
 use Rattle.mode.specs.Mode.{Cipher, Form, zeroBlock, startMask}
 -- 1 (ticket P8): a key that is neither 16 bytes nor 32
-pub use Rattle.fips197.specs.Aes.{notKey}
+unfoldable pub use Rattle.fips197.specs.Aes.{notKey}
 
 -- a refusal, by document 01's number, or what the call gives
 pub data Answer (A : Type 0) : Type 0 where

@@ -2,8 +2,8 @@
 use mathlib.Core.Path.{_≡_, sym}
 use mathlib.Core.List.{List}
 use Prim.Native.Nat.{ℕ}
-use Rattle.fips197.specs.Aes128.{encrypt}
-use Rattle.fips197.proofs.Aes128.{encrypt-halves}
+use Rattle.fips197.specs.Aes.{encrypt}
+use Rattle.fips197.proofs.Aes.{encrypt-halves}
 use Rattle.mode.specs.Mode.{encrypt as encryptOf}
 use Rattle.mode.specs.Aes.{aes}
 

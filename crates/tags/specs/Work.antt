@@ -7,7 +7,7 @@ use Rattle.cipher.specs.Keys.{Expands}
 use Rattle.mode.specs.declared.RunRecord.{RunRecord}
 use Rattle.mode.specs.Mode.{startMask, inWords}
 use Rattle.mode.specs.Aes.{aes}
-use Rattle.mode.specs.Table.{not16, beyond, notWhole, zeroMask}
+use Rattle.mode.specs.Table.{notKey, not16, beyond, notWhole, zeroMask}
 
 -- a key schedule and a start mask
 pub record Prepares (key iv keys start : List ℕ) : Type 0 where
@@ -20,4 +20,4 @@ recordRows key iv r = (4, beyond (r .first) (r .count)) ∷ (9, notWhole inWords
 
 -- the rows of a test that stand before 6
 abbrev pub testFirstRows : List ℕ → List ℕ → RunRecord → List ℕ → List (ℕ × Bool)
-testFirstRows key iv r tag = (1, not16 key) ∷ (2, not16 iv) ∷ (3, not16 tag) ∷ recordRows key iv r
+testFirstRows key iv r tag = (1, notKey key) ∷ (2, not16 iv) ∷ (3, not16 tag) ∷ recordRows key iv r

@@ -6,12 +6,13 @@ ghost use Rattle.mode.specs.Mode.{startMask, tagFrom};
 ghost use Rattle.mode.specs.Aes.{aes};
 ghost use Rattle.cipher.specs.Keys.{keyOf, Expanded};
 
-// Step 1: encrypt (IV plus key), add the key. If that is zero, the start mask is the key.
+// Step 1: encrypt (IV plus key), add the key. If that is zero, the start mask is the key. A key of 32 bytes is added, and is the mask, by its
+// first 16.
 pub fn start_mask(iv: [u8; 16], keys: &[u8; cipher::KEYS]) -> Words
     requires { ⌜ Expanded (now keys) ⌝ }
     ensures { λ r. ⌜ bytesOf r ≡ startMask aes (keyOf (now (keys .entry))) iv ⌝ }
 {
-    let key = cipher::key_of(keys);
+    let key = cipher::key_block(keys);
     let block = blocks::block::xor(iv, key);
     let encrypted = cipher::encrypt_block(block, keys);
     let sum = blocks::block::xor(encrypted, key);

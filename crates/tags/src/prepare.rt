@@ -3,6 +3,7 @@ use blocks::words::Words;
 ghost use mathlib.Core.Path.{_≡_};
 ghost use lib.ListN.{length};
 ghost use Rattle.blocks.specs.Words.{bytesOf};
+ghost use Rattle.fips197.specs.Aes.{KeyLength};
 ghost use Rattle.mode.specs.Aes.{aes};
 ghost use Rattle.mode.specs.Table.{zeroMask};
 ghost use Rattle.tags.specs.Work.{Prepares};
@@ -14,21 +15,20 @@ pub struct Prepared {
 
 // The key schedule, and the start mask.
 pub fn prepare(key: &[u8], iv: &[u8]) -> Prepared
-    requires { ⌜ length (now key) ≡ 16 ⌝ }
+    requires { ⌜ KeyLength (now key) ⌝ }
     requires { ⌜ length (now iv) ≡ 16 ⌝ }
     ensures { λ p. ⌜ Prepares (now (key .entry)) (now (iv .entry)) (p .keys) (bytesOf (p .start)) ⌝ }
 {
-    let k = blocks::block::load(key, 0);
     let v = blocks::block::load(iv, 0);
-    let keys = cipher::expand(k);
+    let keys = cipher::expand(key);
     let start = crate::mask::start_mask(v, &keys);
     Prepared { keys, start }
 }
 
-// Refusal 10: the start mask is still zero after its replacement. That replacement is the key, so only a key of zeros can have one: under any
-// other key nothing is worked out.
+// Refusal 10: the start mask is still zero after its replacement. That replacement is the key's first 16 bytes, so only a key that starts with
+// 16 zeros can have one: under any other key nothing is worked out.
 pub fn zero_mask(key: &[u8], iv: &[u8]) -> bool
-    requires { ⌜ length (now key) ≡ 16 ⌝ }
+    requires { ⌜ KeyLength (now key) ⌝ }
     requires { ⌜ length (now iv) ≡ 16 ⌝ }
     ensures { λ b. ⌜ b ≡ zeroMask aes (now (key .entry)) (now (iv .entry)) ⌝ }
 {

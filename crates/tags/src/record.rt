@@ -3,6 +3,7 @@ use mode::RunRecord;
 use mode::TagAnswer;
 ghost use mathlib.Core.Path.{_≡_};
 ghost use lib.ListN.{length};
+ghost use Rattle.fips197.specs.Aes.{KeyLength};
 ghost use Rattle.mode.specs.Mode.{inWords};
 ghost use Rattle.mode.specs.Aes.{aes};
 ghost use Rattle.mode.specs.Table.{firstRow};
@@ -11,7 +12,7 @@ ghost use Rattle.tags.specs.Work.{recordRows, testFirstRows};
 
 // The first of the rows 4, 9 and 10 that holds of a record that is to be closed, or 0.
 fn record_refusal(key: &[u8], iv: &[u8], run: RunRecord) -> u8
-    requires { ⌜ length (now key) ≡ 16 ⌝ }
+    requires { ⌜ KeyLength (now key) ⌝ }
     requires { ⌜ length (now iv) ≡ 16 ⌝ }
     ensures { λ n. ⌜ n ≡ firstRow (recordRows (now (key .entry)) (now (iv .entry)) run) ⌝ }
 {
@@ -34,7 +35,7 @@ fn record_refusal(key: &[u8], iv: &[u8], run: RunRecord) -> u8
 fn close_refusal(key: &[u8], iv: &[u8], run: RunRecord) -> u8
     ensures { λ n. ⌜ n ≡ firstRow (closeRows inWords aes (now (key .entry)) (now (iv .entry)) run) ⌝ }
 {
-    if key.len() != 16 {
+    if cipher::not_key(key) {
         return 1;
     }
     if iv.len() != 16 {
@@ -47,7 +48,7 @@ fn close_refusal(key: &[u8], iv: &[u8], run: RunRecord) -> u8
 fn test_refusal(key: &[u8], iv: &[u8], run: RunRecord, tag: &[u8]) -> u8
     ensures { λ n. ⌜ n ≡ firstRow (testFirstRows (now (key .entry)) (now (iv .entry)) run (now (tag .entry))) ⌝ }
 {
-    if key.len() != 16 {
+    if cipher::not_key(key) {
         return 1;
     }
     if iv.len() != 16 {
@@ -61,7 +62,7 @@ fn test_refusal(key: &[u8], iv: &[u8], run: RunRecord, tag: &[u8]) -> u8
 
 // The tag of a whole record: the start mask is jumped by the count.
 fn closing_tag(key: &[u8], iv: &[u8], run: RunRecord) -> [u8; 16]
-    requires { ⌜ length (now key) ≡ 16 ⌝ }
+    requires { ⌜ KeyLength (now key) ⌝ }
     requires { ⌜ length (now iv) ≡ 16 ⌝ }
     ensures { λ t. ⌜ t ≡ closingTag inWords aes (now (key .entry)) (now (iv .entry)) run ⌝ }
 {

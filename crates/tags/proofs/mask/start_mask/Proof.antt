@@ -5,7 +5,7 @@ use mathlib.Core.Bool.{Bool, true, false, cond}
 use mathlib.Core.List.{List}
 use Prim.Native.Nat.{ℕ}
 use Rattle.blocks.specs.Bytes.{xorBytes, same}
-use Rattle.mode.specs.Mode.{encrypt as encryptOf, startMask, zeroBlock}
+use Rattle.mode.specs.Mode.{encrypt as encryptOf, keyBlock, startMask, zeroBlock}
 use Rattle.mode.specs.Aes.{aes}
 use Rattle.cipher.specs.Keys.{keyOf}
 use Rattle.tags.proofs.Cipher.{by-halves}
@@ -13,16 +13,16 @@ use Rattle.tags.proofs.mask.start_mask.Statement.{statement}
 use Rattle.tags.proofs.mask.start_mask.Tie as tie
 
 -- the key or the sum, as the test says
-chosen : (t : Bool) (keys iv key block encrypted sum : List ℕ) → key ≡ keyOf keys → block ≡ xorBytes iv key → encrypted ≡ encryptOf aes (keyOf keys) block
+chosen : (t : Bool) (keys iv key block encrypted sum : List ℕ) → key ≡ keyBlock (keyOf keys) → block ≡ xorBytes iv key → encrypted ≡ encryptOf aes (keyOf keys) block
     → sum ≡ xorBytes encrypted key → same sum zeroBlock ≡ t → cond t key sum ≡ startMask aes (keyOf keys) iv
 unfolding startMask
 chosen t keys iv key block encrypted sum ek eb ee es et =
-    let is : sum ≡ xorBytes (encryptOf aes (keyOf keys) (xorBytes iv (keyOf keys))) (keyOf keys) =
+    let is : sum ≡ xorBytes (encryptOf aes (keyOf keys) (xorBytes iv (keyBlock (keyOf keys)))) (keyBlock (keyOf keys)) =
     es ∙ ap₂ xorBytes (ee ∙ ap (encryptOf aes (keyOf keys)) (eb ∙ ap (xorBytes iv) ek)) ek in
     ap (λ (u : Bool). cond u key sum) (sym et) ∙ (λ i. cond (same (is i) zeroBlock) (ek i) (is i))
 
-key-of-requires : tie.Need-key-of-requires
-key-of-requires c κs = search needs
+key-block-requires : tie.Need-key-block-requires
+key-block-requires c κs = search needs
 
 xor-requires : tie.Need-xor-requires
 xor-requires c κs = search needs
@@ -40,29 +40,31 @@ from-bytes-requires : tie.Need-from-bytes-requires
 from-bytes-requires c κs = search needs
 
 returns : tie.Need-returns
+unfolding keyBlock
 returns c =
     let s = c .before .before in
     let a = s .before .before .before .before .before .args in
     c .from-bytes .ensures
-    ∙ chosen true (a .keys .now) (a .iv) _ _ _ _ (s .before .before .before .before .key-of .ensures) (s .before .before .before .xor .ensures) (s .before .before .encrypt-block .ensures ∙ by-halves (keyOf (a .keys .now)) (s .before .before .before .xor .result)) (s .before .xor2 .ensures)
+    ∙ chosen true (a .keys .now) (a .iv) _ _ _ _ (s .before .before .before .before .key-block .ensures) (s .before .before .before .xor .ensures) (s .before .before .encrypt-block .ensures ∙ by-halves (keyOf (a .keys .now)) (s .before .before .before .xor .result)) (s .before .xor2 .ensures)
     (sym (s .equal .ensures) ∙ c .before .if1 .taken)
 
 from-bytes-requires-2 : tie.Need-from-bytes-requires-2
 from-bytes-requires-2 c κs = search needs
 
 returns-2 : tie.Need-returns-2
+unfolding keyBlock
 returns-2 c =
     let s = c .before .before in
     let a = s .before .before .before .before .before .args in
     c .from-bytes2 .ensures
-    ∙ chosen false (a .keys .now) (a .iv) _ _ _ _ (s .before .before .before .before .key-of .ensures) (s .before .before .before .xor .ensures) (s .before .before .encrypt-block .ensures ∙ by-halves (keyOf (a .keys .now)) (s .before .before .before .xor .result)) (s .before .xor2 .ensures)
+    ∙ chosen false (a .keys .now) (a .iv) _ _ _ _ (s .before .before .before .before .key-block .ensures) (s .before .before .before .xor .ensures) (s .before .before .encrypt-block .ensures ∙ by-halves (keyOf (a .keys .now)) (s .before .before .before .xor .result)) (s .before .xor2 .ensures)
     (sym (s .equal .ensures) ∙ c .before .if1 .left)
 
 pub start-mask-spec : {M : Type 1} → statement M
 start-mask-spec =
     tie.close
     (tie.spec
-    key-of-requires
+    key-block-requires
     xor-requires
     encrypt-block-requires
     xor-requires-2

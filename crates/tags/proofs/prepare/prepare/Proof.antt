@@ -10,9 +10,6 @@ use Rattle.tags.proofs.prepare.prepare.Tie as tie
 load-requires : tie.Need-load-requires
 load-requires c κs = search needs
 
-load-requires-2 : tie.Need-load-requires-2
-load-requires-2 c κs = search needs
-
 expand-requires : tie.Need-expand-requires
 expand-requires c κs = search needs
 
@@ -22,13 +19,13 @@ start-mask-requires c κs = c .before .expand .ensures .schedule
 returns : tie.Need-returns
 returns c =
     let x = c .before .before in
-    let s = x .before .before .before .before .before in
-    let k = x .expand .ensures .of ∙ x .before .before .load .ensures ∙ whole-16 (s .args .key .now) (s .pre .0) in
+    let s = x .before .before .before .before in
+    let k = x .expand .ensures .of in
     record {
       expanded = record { schedule = x .expand .ensures .schedule; of = k };
-      started = c .start-mask .ensures ∙ ap₂ (startMask aes) k (x .before .load2 .ensures ∙ whole-16 (s .args .iv .now) (s .pre .1));
+      started = c .start-mask .ensures ∙ ap₂ (startMask aes) k (x .before .load .ensures ∙ whole-16 (s .args .iv .now) (s .pre .1));
     }
 
 pub prepare-spec : {M : Type 1} → statement M
 prepare-spec =
-    tie.close (tie.spec load-requires load-requires-2 expand-requires start-mask-requires returns)
+    tie.close (tie.spec load-requires expand-requires start-mask-requires returns)

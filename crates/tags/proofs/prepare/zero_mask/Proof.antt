@@ -1,30 +1,30 @@
--- Under a key that is not zero neither the start mask nor its replacement is; under a zero key the mask is looked at.
+-- Where the key's first 16 bytes are not zero neither the start mask nor its replacement is; where they are, the mask is looked at.
 use borrow.Author.Needs.{needs}
 use borrow.Author.Tests.{not-true}
 use mathlib.Core.Path.{_≡_, sym, ap, _∙_}
 use mathlib.Core.List.{List}
 use Prim.Native.Nat.{ℕ}
 use native.Mathlib.Omega.{arith}
-use lib.Seq.{take-all}
 use Rattle.blocks.specs.Bytes.{same}
-use Rattle.mode.specs.Mode.{zeroBlock}
+use Rattle.mode.specs.Mode.{zeroBlock, keyBlock}
 use Rattle.mode.specs.Aes.{aes}
 use Rattle.mode.specs.Table.{zeroMask}
+use Rattle.fips197.proofs.Keys.{at-least-16}
 use Rattle.mode.proofs.ZeroMask.{key-not-zero}
 use Rattle.tags.proofs.prepare.zero_mask.Statement.{statement}
 use Rattle.tags.proofs.prepare.zero_mask.Tie as tie
 
 load-requires : tie.Need-load-requires
-load-requires c κs = search needs
+load-requires c κs = let s = c .before .before in omega (arith, at-least-16 (s .args .key .now) (s .pre .0))
 
 equal-requires : tie.Need-equal-requires
 equal-requires c κs = search needs
 
 returns : tie.Need-returns
+unfolding keyBlock
 returns c =
     let s = c .before .before .before .before .before in
-    let k : c .before .before .load .result ≡ s .args .key .now = c .before .before .load .ensures ∙ take-all 16 (s .args .key .now) (omega (arith, s .pre .0)) in
-    let e : c .before .equal .result ≡ same (s .args .key .now) zeroBlock = c .before .equal .ensures ∙ ap (λ (x : List ℕ). same x zeroBlock) k in
+    let e : c .before .equal .result ≡ same (keyBlock (s .args .key .now)) zeroBlock = c .before .equal .ensures ∙ ap (λ (x : List ℕ). same x zeroBlock) (c .before .before .load .ensures) in
     sym (key-not-zero aes (s .args .key .now) (s .args .iv .now) (sym e ∙ not-true (c .before .equal .result) (c .if1 .taken)))
 
 prepare-requires : tie.Need-prepare-requires

@@ -7,7 +7,7 @@ use Rattle.mode.specs.Mode.{inWords}
 use Rattle.mode.specs.Aes.{aes}
 use Rattle.mode.specs.Calls.{closeRows, closingTag, close as closeOf}
 use Rattle.mode.proofs.Answers.{refuses, gives, refused-tag, given-tag}
-use Rattle.mode.proofs.Passed.{key-16, iv-16}
+use Rattle.mode.proofs.Passed.{key-passed, iv-16}
 use Rattle.tags.proofs.record.close.Statement.{statement}
 use Rattle.tags.proofs.record.close.Tie as tie
 
@@ -25,7 +25,7 @@ closing-tag-requires : tie.Need-closing-tag-requires
 closing-tag-requires c κs =
     let a = c .before .before .before .before .args in
     let x = c .before .close-refusal in
-    (key-16 (a .key .now) _ (sym (x .ensures) ∙ c .if1 .left), iv-16 (a .key .now) (a .iv .now) _ (sym (x .ensures) ∙ c .if1 .left))
+    (key-passed (a .key .now) _ (sym (x .ensures) ∙ c .if1 .left), iv-16 (a .key .now) (a .iv .now) _ (sym (x .ensures) ∙ c .if1 .left))
 
 returns-2 : tie.Need-returns-2
 unfolding closeOf

@@ -12,7 +12,7 @@ use Rattle.mode.specs.Calls.{closingTag, test as testOf, number}
 use Rattle.mode.specs.Table.{firstRow}
 use Rattle.tags.specs.Work.{testFirstRows}
 use Rattle.mode.proofs.Answers.{test-answer, test-refused}
-use Rattle.mode.proofs.Passed.{key-16, iv-16, tag-16}
+use Rattle.mode.proofs.Passed.{key-passed, iv-16, tag-16}
 use Rattle.blocks.proofs.Parts.{whole-16}
 use Rattle.tags.proofs.record.test.Statement.{statement}
 use Rattle.tags.proofs.record.test.Tie as tie
@@ -31,7 +31,7 @@ closing-tag-requires : tie.Need-closing-tag-requires
 closing-tag-requires c κs =
     let a = c .before .before .before .before .before .args in
     let e = sym (c .before .test-refusal .ensures) ∙ c .if1 .left in
-    (key-16 (a .key .now) _ e, iv-16 (a .key .now) (a .iv .now) _ e)
+    (key-passed (a .key .now) _ e, iv-16 (a .key .now) (a .iv .now) _ e)
 
 load-requires : tie.Need-load-requires
 load-requires c κs =
