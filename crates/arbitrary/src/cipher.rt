@@ -1,7 +1,7 @@
 // The bare cipher.
 ghost use mathlib.Core.Path.{_≡_};
 ghost use lib.ListN.{length};
-ghost use Rattle.fips197.specs.Aes128.{encrypt as encrypted, decrypt as decrypted};
+ghost use Rattle.fips197.specs.Aes.{encrypt as encrypted, decrypt as decrypted};
 ghost use Rattle.aes_blocks.specs.EachBlock.{refusal, output};
 
 pub fn encrypt(key: &[u8], text: &[u8], out: &mut [u8]) -> u8

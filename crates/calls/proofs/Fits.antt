@@ -12,7 +12,7 @@ use Rattle.mode.specs.Aes.{aes}
 use Rattle.mode.specs.Table.{firstRow, limit, unaligned}
 use Rattle.mode.specs.Calls.{sealRunRows, sealRows, blocksOfRun, unalignedRun}
 use Rattle.mode.proofs.Aes.{aes-lawful}
-use Rattle.mode.proofs.Passed.{head-passed, tail-passed, key-16, iv-16, run-within}
+use Rattle.mode.proofs.Passed.{head-passed, tail-passed, key-passed, iv-16, run-within}
 use Rattle.mode.proofs.SealedLength.{sealed-length}
 use Rattle.calls.specs.Layout.{kindOf, laidOutLength}
 use Rattle.calls.proofs.LaidOut.{count-laidOut}
@@ -35,4 +35,4 @@ run-fits key iv first l bytes room e =
 pub sealed-fits : (key iv message : List ℕ) (room : ℕ) → firstRow (sealRows aes key iv message room) ≡ 0 → length message / 16 * 16 + 48 ≤ room
 sealed-fits key iv message room e =
     let f : length (sealedRecord aes key iv message) ≤ room = ltb-false room (length (sealedRecord aes key iv message)) (head-passed 4 _ _ (tail-passed 9 _ _ (tail-passed 2 _ _ (tail-passed 1 _ _ (tail-passed 0 _ _ e))))) in
-    omega (arith, f, sealed-length aes aes-lawful key (key-16 key _ e) iv (iv-16 key iv _ e) message)
+    omega (arith, f, sealed-length aes aes-lawful key (key-passed key _ e) iv (iv-16 key iv _ e) message)

@@ -12,7 +12,8 @@ use Rattle.gf128.specs.Gf128.{jump}
 use Rattle.gf128.proofs.TimesX.{length-jump}
 use Rattle.mode.specs.Mode.{plaintext, zeroBlock, startMask, blocksOf, padded}
 use Rattle.mode.specs.Aes.{aes}
-use Rattle.mode.specs.Table.{not16, unaligned, beyond, zeroMask}
+use Rattle.fips197.specs.Aes.{KeyLength}
+use Rattle.mode.specs.Table.{notKey, not16, unaligned, beyond, zeroMask}
 use Rattle.mode.specs.Calls.{Kind, blocksOfRun, unalignedRun, checkRunRows, passFrom}
 use Rattle.mode.proofs.Aes.{aes-lawful}
 use Rattle.mode.proofs.Blocks.{length-padded, count-middle, run-long}
@@ -46,7 +47,7 @@ aligned-run l bytes h = sym (unaligned-laidOut l bytes) ∙ ap not (eq-eqb (laid
 -- the rows that sealing and checking share: by the bytes, and by the length
 abbrev pub sharedRows : List ℕ → List ℕ → ℕ → Kind → List ℕ → List (ℕ × Bool)
 sharedRows key iv first kind bytes =
-    (1, not16 key)
+    (1, notKey key)
     ∷ (2, not16 iv)
     ∷ (3, unalignedRun kind bytes)
     ∷ (4, beyond first (length (blocksOfRun kind bytes)))
@@ -56,7 +57,7 @@ sharedRows key iv first kind bytes =
 pub shared-rows : (key iv : List ℕ) (first : ℕ) (l : Bool) (bytes : List ℕ)
     → runRows key iv first (laidOutLength l (length bytes)) ≡ sharedRows key iv first (kindOf l) bytes
 shared-rows key iv first l bytes =
-    ap₂ (λ (three four : Bool). (1, not16 key) ∷ (2, not16 iv) ∷ (3, three) ∷ (4, four) ∷ (10, zeroMask aes key iv) ∷ [])
+    ap₂ (λ (three four : Bool). (1, notKey key) ∷ (2, not16 iv) ∷ (3, three) ∷ (4, four) ∷ (10, zeroMask aes key iv) ∷ [])
     (unaligned-laidOut l bytes) (ap (beyond first) (sym (count-laidOut l bytes)))
 
 pub check-rows : (key iv : List ℕ) (first : ℕ) (bytes : List ℕ) → runRows key iv first (length bytes) ≡ checkRunRows aes key iv first bytes
@@ -75,7 +76,7 @@ blocks-within true n = omega arith
 blocks-within false n = omega arith
 
 -- the ciphertext of a run is as long as the run laid out
-pub run-output-long : (key iv : List ℕ) (first : ℕ) (l : Bool) (bytes : List ℕ) → length key ≡ 16 → length iv ≡ 16 → laidOutLength l (length bytes) % 16 ≡ 0
+pub run-output-long : (key iv : List ℕ) (first : ℕ) (l : Bool) (bytes : List ℕ) → KeyLength key → length iv ≡ 16 → laidOutLength l (length bytes) % 16 ≡ 0
     → length ((passFrom aes plaintext key iv first (blocksOfRun (kindOf l) bytes)) .output) ≡ laidOutLength l (length bytes)
 unfolding passFrom
 run-output-long key iv first l bytes hk hi h =

@@ -21,7 +21,8 @@ use Rattle.mode.proofs.Demand2.{sealed-lengths}
 use Rattle.mode.proofs.Demand3.{cipher-length}
 use Rattle.mode.proofs.Rows.{first-passes, first-refuses}
 use Rattle.calls.specs.Work.{openFirstRows, SealedLengths, endBy, messageEnd, released, writtenGiven}
-use Rattle.mode.proofs.Passed.{head-passed, tail-passed, key-16}
+use Rattle.fips197.specs.Aes.{KeyLength}
+use Rattle.mode.proofs.Passed.{head-passed, tail-passed, key-passed}
 
 -- ---- the mark 80 and the zeros behind it
 
@@ -154,12 +155,12 @@ message-released text room e en h = by (unpadFrom 16 text) refl en
 -- ---- the rows
 
 -- the rows by lengths: what is known where none holds
-pub lengths-passed : (key sealed : List ℕ) (room : ℕ) → firstRow (openFirstRows key sealed room) ≡ 0 → (length key ≡ 16) × (SealedLengths sealed × (length sealed - 32 ≤ room))
+pub lengths-passed : (key sealed : List ℕ) (room : ℕ) → firstRow (openFirstRows key sealed room) ≡ 0 → KeyLength key × (SealedLengths sealed × (length sealed - 32 ≤ room))
 lengths-passed key sealed room e =
     let e₃ = tail-passed 0 _ _ e in
     let l = sealed-lengths sealed (head-passed 2 _ _ e₃) in
     let f : length (cipherPart sealed) ≤ room = ltb-false room (length (cipherPart sealed)) (head-passed 4 _ _ (tail-passed 9 _ _ (tail-passed 2 _ _ e₃))) in
-    (key-16 key _ e, (record { least = l .0; aligned = l .2 }, omega (arith, f, cipher-length sealed (l .0))))
+    (key-passed key _ e, (record { least = l .0; aligned = l .2 }, omega (arith, f, cipher-length sealed (l .0))))
 
 pub tag-block : (sealed : List ℕ) → 48 ≤ length sealed → take 16 (drop (length sealed - 16) sealed) ≡ tagPart sealed
 unfolding tagPart

@@ -10,7 +10,7 @@ use Rattle.blocks.specs.Bytes.{zeros}
 use Rattle.mode.specs.declared.RunRecord.{RunRecord}
 use Rattle.mode.specs.Mode.{Pass, ciphertext, blocksOf, unbrokenTag, ivPart, cipherPart, inWords}
 use Rattle.mode.specs.Aes.{aes}
-use Rattle.mode.specs.Table.{decide, not16, notSealed, beyond, zeroMask, tooShort}
+use Rattle.mode.specs.Table.{decide, notKey, not16, notSealed, beyond, zeroMask, tooShort}
 use Rattle.mode.specs.declared.Written.{Written}
 use Rattle.mode.specs.declared.RunAnswer.{RunAnswer}
 use Rattle.mode.specs.Calls.{Outcome, outcomeBy, blank, plaintextOf, unpadded, notPadded, orEmpty}
@@ -24,7 +24,7 @@ pub record TextSealed (p : Pass) (left : ℕ) (new mask preauthenticator : List 
 -- the rows of opening that stand before 6
 abbrev pub openFirstRows : List ℕ → List ℕ → ℕ → List (ℕ × Bool)
 openFirstRows key sealed room =
-    (1, not16 key)
+    (1, notKey key)
     ∷ (3, notSealed sealed)
     ∷ (10, zeroMask aes key (ivPart sealed))
     ∷ (5, tooShort room (length (cipherPart sealed)))
@@ -33,7 +33,7 @@ openFirstRows key sealed room =
 -- the rows that sealing and checking a run share, by the number of its bytes as it is laid out
 abbrev pub runRows : List ℕ → List ℕ → ℕ → ℕ → List (ℕ × Bool)
 runRows key iv first size =
-    (1, not16 key)
+    (1, notKey key)
     ∷ (2, not16 iv)
     ∷ (3, not (eqb (size % 16) 0))
     ∷ (4, beyond first (size / 16))

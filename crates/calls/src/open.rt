@@ -4,6 +4,7 @@ use runs::run::Task;
 ghost use mathlib.Core.Path.{_≡_};
 ghost use Prim.Native.Nat.{_-_, _%_, _≤_};
 ghost use lib.ListN.{length, take};
+ghost use Rattle.fips197.specs.Aes.{KeyLength};
 ghost use Rattle.mode.specs.Aes.{aes};
 ghost use Rattle.mode.specs.Table.{firstRow};
 ghost use Rattle.mode.specs.Calls.{openSealed, writtenOf};
@@ -17,7 +18,7 @@ const SHORTEST: usize = 48;
 fn open_refusal(key: &[u8], sealed: &[u8], room: usize) -> u8
     ensures { λ n. ⌜ n ≡ firstRow (openFirstRows (now (key .entry)) (now (sealed .entry)) room) ⌝ }
 {
-    if key.len() != 16 {
+    if cipher::not_key(key) {
         return 1;
     }
     if sealed.len() < SHORTEST {
@@ -90,7 +91,7 @@ fn release(size: usize, out: &mut [u8]) -> Written
 
 // The plaintext into an output that holds zeros. The answer is the tag that the ciphertext gives.
 fn open_text(key: &[u8], sealed: &[u8], out: &mut [u8]) -> [u8; 16]
-    requires { ⌜ length (now key) ≡ 16 ⌝ }
+    requires { ⌜ KeyLength (now key) ⌝ }
     requires { ⌜ SealedLengths (now sealed) ⌝ }
     requires { ⌜ Fresh (now out) ⌝ }
     requires { ⌜ length (now sealed) - 32 ≤ length (now out) ⌝ }

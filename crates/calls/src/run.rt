@@ -10,6 +10,7 @@ ghost use Prim.Native.Nat.{_+_, _-_, _%_, _/_, _≤_};
 ghost use lib.ListN.{length};
 ghost use Rattle.blocks.specs.Bytes.{zeros};
 ghost use Rattle.mode.specs.Mode.{plaintext, ciphertext, blocksOf, inWords};
+ghost use Rattle.fips197.specs.Aes.{KeyLength};
 ghost use Rattle.mode.specs.Aes.{aes};
 ghost use Rattle.mode.specs.Table.{firstRow, limit};
 ghost use Rattle.mode.specs.Calls.{sealRunRows, blocksOfRun, passFrom, runRecord, sealRun, checkRun, runAnswerOf, recordAnswerOf};
@@ -20,7 +21,7 @@ ghost use Rattle.calls.specs.Work.{runRows, runGiven, refusedRun};
 fn run_refusal(key: &[u8], iv: &[u8], first: u32, size: usize) -> u8
     ensures { λ n. ⌜ n ≡ firstRow (runRows (now (key .entry)) (now (iv .entry)) first size) ⌝ }
 {
-    if key.len() != 16 {
+    if cipher::not_key(key) {
         return 1;
     }
     if iv.len() != 16 {
@@ -63,7 +64,7 @@ fn seal_run_into(
     bytes: &[u8],
     out: &mut [u8],
 ) -> RunAnswer
-    requires { ⌜ length (now key) ≡ 16 ⌝ }
+    requires { ⌜ KeyLength (now key) ⌝ }
     requires { ⌜ length (now iv) ≡ 16 ⌝ }
     requires { ⌜ Fresh (now out) ⌝ }
     requires { ⌜ laidOutLength last (length (now bytes)) ≤ length (now out) ⌝ }
@@ -130,7 +131,7 @@ fn refused(refusal: u8) -> RunAnswer
 // ---- check
 
 fn check_run_record(key: &[u8], iv: &[u8], first: u32, bytes: &[u8]) -> RunRecord
-    requires { ⌜ length (now key) ≡ 16 ⌝ }
+    requires { ⌜ KeyLength (now key) ⌝ }
     requires { ⌜ length (now iv) ≡ 16 ⌝ }
     requires { ⌜ length (now bytes) / 16 ≤ limit ⌝ }
     ensures { λ r. ⌜ r ≡ runRecord inWords aes ciphertext (now (key .entry)) (now (iv .entry)) first (blocksOf (now (bytes .entry))) ⌝ }

@@ -6,6 +6,7 @@ ghost use Prim.Native.Nat.{_+_, _*_, _-_, _/_, _≤_};
 ghost use lib.ListN.{length};
 ghost use Rattle.blocks.specs.Bytes.{zeros};
 ghost use Rattle.mode.specs.Mode.{sealedRecord};
+ghost use Rattle.fips197.specs.Aes.{KeyLength};
 ghost use Rattle.mode.specs.Aes.{aes};
 ghost use Rattle.mode.specs.Table.{firstRow};
 ghost use Rattle.mode.specs.Calls.{sealRows, seal as sealOf, writtenOf};
@@ -16,7 +17,7 @@ ghost use Rattle.calls.specs.Work.{writtenGiven};
 fn seal_refusal(key: &[u8], iv: &[u8], message: &[u8], room: usize) -> u8
     ensures { λ n. ⌜ n ≡ firstRow (sealRows aes (now (key .entry)) (now (iv .entry)) (now (message .entry)) room) ⌝ }
 {
-    if key.len() != 16 {
+    if cipher::not_key(key) {
         return 1;
     }
     if iv.len() != 16 {
@@ -38,7 +39,7 @@ fn seal_refusal(key: &[u8], iv: &[u8], message: &[u8], room: usize) -> u8
 
 // The IV, the ciphertext and the tag.
 fn seal_into(key: &[u8], iv: &[u8], message: &[u8], out: &mut [u8]) -> Written
-    requires { ⌜ length (now key) ≡ 16 ⌝ }
+    requires { ⌜ KeyLength (now key) ⌝ }
     requires { ⌜ length (now iv) ≡ 16 ⌝ }
     requires { ⌜ Fresh (now out) ⌝ }
     requires { ⌜ length (now message) / 16 * 16 + 48 ≤ length (now out) ⌝ }

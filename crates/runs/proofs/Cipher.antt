@@ -4,7 +4,7 @@ use mathlib.Core.List.{List}
 use Prim.Native.Nat.{ℕ}
 use Rattle.groups.specs.Group.{blockAt, Holds}
 use Rattle.groups.proofs.Loop.{holds-as}
-use Rattle.fips197.proofs.Aes128.{encrypt-halves, decrypt-halves}
+use Rattle.fips197.proofs.Aes.{encrypt-halves, decrypt-halves}
 use Rattle.cipher.specs.Group.{Enciphered, Deciphered, Middletexts}
 use Rattle.runs.specs.Task.{toMiddle, fromMiddle}
 use Rattle.runs.specs.Group.{Through}

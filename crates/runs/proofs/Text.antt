@@ -7,6 +7,7 @@ use native.Mathlib.Omega.{arith}
 use lib.ListN.{length, take, drop, set, length-drop, take-append-drop}
 use lib.Seq.{drop-at, take-all, length-take-le, take-append-le, drop-append-le}
 use Rattle.blocks.specs.Bytes.{zeros, firstBlocks}
+use Rattle.blocks.proofs.Chunks.{blocks-front}
 use Rattle.blocks.proofs.Zeros.{set-zeros}
 use Rattle.groups.specs.Group.{blockOf}
 use Rattle.mode.specs.Mode.{padded}
@@ -20,13 +21,6 @@ padded-behind i text h =
     ∙ ap (drop (i * 16)) (padded-append (take (i * 16) text) (drop (i * 16) text) (let e : length (take (i * 16) text) % 16 ≡ 0 = omega (arith, l) in e))
     ∙ drop-at (take (i * 16) text) (padded (drop (i * 16) text)) (i * 16) l
 
-first-of : (n : ℕ) (a b : List ℕ) → n * 16 ≤ length a → firstBlocks n (a ++ b) ≡ firstBlocks n a
-unfolding firstBlocks
-first-of zero a b h = refl
-first-of (suc n) a b h =
-    ap₂ (λ (x : List ℕ) (y : List (List ℕ)). x ∷ y) (take-append-le 16 a b (omega (arith, h)))
-    (ap (firstBlocks n) (drop-append-le 16 a b (omega (arith, h))) ∙ first-of n (drop 16 a) b (omega (arith, h, length-drop 16 a)))
-
 -- a whole block is as it was
 pub whole-block : (text : List ℕ) (i : ℕ) → i < length text / 16 → blockOf text i ≡ blockOf (padded text) i
 unfolding blockOf padded
@@ -36,7 +30,7 @@ whole-block text i h =
 
 pub whole-blocks : (n : ℕ) (text : List ℕ) → n ≤ length text / 16 → firstBlocks n (padded text) ≡ firstBlocks n text
 unfolding padded
-whole-blocks n text h = first-of n text _ (omega (arith, h))
+whole-blocks n text h = blocks-front n text _ (omega (arith, h))
 
 -- the last one is the rest and its padding
 pub last-block : (text : List ℕ) → padded (drop (length text / 16 * 16) text) ≡ blockOf (padded text) (length text / 16)

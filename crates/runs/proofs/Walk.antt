@@ -13,7 +13,7 @@ use Rattle.groups.proofs.Front.{length-inTurn, turn-as, turn-first, block-behin
 use Rattle.mode.specs.Mode.{Pass, plaintext, ciphertext, middletext, written, pass}
 use Rattle.mode.specs.Aes.{aes}
 use Rattle.mode.specs.Calls.{decrypted}
-use Rattle.fips197.specs.Aes128.{firstHalf, secondHalf, invFirstHalf, invSecondHalf}
+use Rattle.fips197.specs.Aes.{firstHalf, secondHalf, invFirstHalf, invSecondHalf}
 use Rattle.runs.specs.Task.{toMiddle, fromMiddle, writes, wrote, middleAt, outputAt}
 use Rattle.runs.specs.Group.{takenUp, Done}
 use Rattle.runs.specs.Run.{ran, Ran}

@@ -5,7 +5,7 @@ use Prim.Native.Nat.{ℕ, _*_}
 use Rattle.blocks.specs.Bytes.{xorBytes}
 use Rattle.gf128.specs.Gf128.{jump}
 use Rattle.groups.specs.Group.{blockOf}
-use Rattle.fips197.specs.Aes128.{firstHalf, secondHalf, invFirstHalf, invSecondHalf}
+use Rattle.fips197.specs.Aes.{firstHalf, secondHalf, invFirstHalf, invSecondHalf}
 use Rattle.runs.specs.declared.run.Task.{Task}
 use Rattle.runs.specs.declared.run.Task.the-variants.{Seal, Open, Check}
 

@@ -11,7 +11,7 @@ use Rattle.mode.specs.Table.{firstRow, limit}
 use Rattle.mode.specs.Calls.{checkRunRows, runRecord, checkRun}
 use Rattle.mode.proofs.Blocks.{count-middle}
 use Rattle.mode.proofs.Answers.{refuses, gives, refused-record, given-record}
-use Rattle.mode.proofs.Passed.{key-16, iv-16, run-within}
+use Rattle.mode.proofs.Passed.{key-passed, iv-16, run-within}
 use Rattle.calls.proofs.LaidOut.{check-rows}
 use Rattle.calls.proofs.run.check_run.Statement.{statement}
 use Rattle.calls.proofs.run.check_run.Tie as tie
@@ -43,7 +43,7 @@ check-run-record-requires c κs =
     let a = c .before .before .before .before .before .args in
     let e = sym (at-bytes (c .before)) ∙ c .if1 .left in
     let h : a .first + length (blocksOf (a .bytes .now)) ≤ limit = run-within (a .key .now) (a .iv .now) _ (a .first) _ _ e in
-    (key-16 (a .key .now) _ e, (iv-16 (a .key .now) (a .iv .now) _ e, omega (arith, h, count-middle (a .bytes .now))))
+    (key-passed (a .key .now) _ e, (iv-16 (a .key .now) (a .iv .now) _ e, omega (arith, h, count-middle (a .bytes .now))))
 
 returns-2 : tie.Need-returns-2
 unfolding checkRun

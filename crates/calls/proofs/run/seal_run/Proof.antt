@@ -13,7 +13,7 @@ use Rattle.mode.specs.Calls.{sealRunRows, blocksOfRun, passFrom, runRecord, sea
 use Rattle.calls.specs.Layout.{kindOf, laidOutLength}
 use Rattle.calls.proofs.LaidOut.{run-output-long}
 use Rattle.mode.proofs.Answers.{refuses, gives, refused-run, given-run, refused-output, given-output}
-use Rattle.mode.proofs.Passed.{key-16, iv-16}
+use Rattle.mode.proofs.Passed.{key-passed, iv-16}
 use Rattle.calls.proofs.Fits.{run-fits}
 use Rattle.calls.proofs.Outputs.{fresh}
 use Rattle.calls.proofs.run.seal_run.Statement.{statement}
@@ -53,7 +53,7 @@ seal-run-into-requires c κs =
     let room = length (a .out .now) in
     let e = sym (at-room (c .before .before)) ∙ c .before .if1 .left in
     let f = run-fits (a .key .now) (a .iv .now) (a .first) (a .last) (a .bytes .now) room e in
-    (key-16 (a .key .now) _ e, (iv-16 (a .key .now) (a .iv .now) _ e, (fresh (length (a .out .now)) (q .last .0) (q .ensures), (omega (arith, f .0, q .kept .0), f .1))))
+    (key-passed (a .key .now) _ e, (iv-16 (a .key .now) (a .iv .now) _ e, (fresh (length (a .out .now)) (q .last .0) (q .ensures), (omega (arith, f .0, q .kept .0), f .1))))
 
 same-length-2 : tie.Need-same-length-2
 same-length-2 c = search needs
@@ -70,7 +70,7 @@ returns-2 c =
     let f = run-fits (a .key .now) (a .iv .now) (a .first) (a .last) (a .bytes .now) room e in
     let blocks = blocksOfRun (kindOf (a .last)) (a .bytes .now) in
     let d = gives (sealRunRows aes (a .key .now) (a .iv .now) (a .first) (kindOf (a .last)) (a .bytes .now) room) (runRecord inWords aes plaintext (a .key .now) (a .iv .now) (a .first) blocks) (c .before .before .before .before .before .seal-run-refusal .result) tt (at-room (c .before .before .before .before .before)) (c .before .before .before .before .if1 .left) in
-    let l = run-output-long (a .key .now) (a .iv .now) (a .first) (a .last) (a .bytes .now) (key-16 (a .key .now) _ e) (iv-16 (a .key .now) (a .iv .now) _ e) (f .1 .0) in (
+    let l = run-output-long (a .key .now) (a .iv .now) (a .first) (a .last) (a .bytes .now) (key-passed (a .key .now) _ e) (iv-16 (a .key .now) (a .iv .now) _ e) (f .1 .0) in (
       y .ensures .0 ∙ given-run _ _ room _ n d l,
       y .ensures .1 ∙ ap (λ (k : ℕ). (passFrom aes plaintext (a .key .now) (a .iv .now) (a .first) blocks) .output ++ zeros (k - n)) (q .kept .0) ∙ given-output _ _ room _ n d l,
     )

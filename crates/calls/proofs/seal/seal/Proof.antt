@@ -13,7 +13,7 @@ use Rattle.mode.specs.Calls.{sealRows, seal as sealOf}
 use Rattle.mode.proofs.Aes.{aes-lawful}
 use Rattle.mode.proofs.SealedLength.{sealed-length}
 use Rattle.mode.proofs.Answers.{refuses, gives, refused-written, given-written, refused-output, given-output}
-use Rattle.mode.proofs.Passed.{key-16, iv-16}
+use Rattle.mode.proofs.Passed.{key-passed, iv-16}
 use Rattle.calls.proofs.Fits.{sealed-fits}
 use Rattle.calls.proofs.Outputs.{fresh}
 use Rattle.calls.proofs.seal.seal.Statement.{statement}
@@ -49,7 +49,7 @@ seal-into-requires c κs =
     let q = c .before .before .before .before .before .clear in
     let e = sym (at-room (c .before .before)) ∙ c .before .if1 .left in
     let f = sealed-fits (a .key .now) (a .iv .now) (a .message .now) (length (a .out .now)) e in
-    (key-16 (a .key .now) _ e, (iv-16 (a .key .now) (a .iv .now) _ e, (fresh (length (a .out .now)) (q .last .0) (q .ensures), omega (arith, f, q .kept .0))))
+    (key-passed (a .key .now) _ e, (iv-16 (a .key .now) (a .iv .now) _ e, (fresh (length (a .out .now)) (q .last .0) (q .ensures), omega (arith, f, q .kept .0))))
 
 same-length-2 : tie.Need-same-length-2
 same-length-2 c = search needs
@@ -65,7 +65,7 @@ returns-2 c =
     let e = sym (at-room (c .before .before .before .before .before)) ∙ c .before .before .before .before .if1 .left in
     let whole = sealedRecord aes (a .key .now) (a .iv .now) (a .message .now) in
     let d = gives (sealRows aes (a .key .now) (a .iv .now) (a .message .now) room) whole (c .before .before .before .before .before .seal-refusal .result) tt (at-room (c .before .before .before .before .before)) (c .before .before .before .before .if1 .left) in
-    let l = sealed-length aes aes-lawful (a .key .now) (key-16 (a .key .now) _ e) (a .iv .now) (iv-16 (a .key .now) (a .iv .now) _ e) (a .message .now) in (
+    let l = sealed-length aes aes-lawful (a .key .now) (key-passed (a .key .now) _ e) (a .iv .now) (iv-16 (a .key .now) (a .iv .now) _ e) (a .message .now) in (
       y .ensures .0 ∙ given-written _ _ room _ n d l,
       y .ensures .1 ∙ ap (λ (k : ℕ). whole ++ zeros (k - n)) (q .kept .0) ∙ given-output _ _ room _ n d l,
     )
