@@ -13,7 +13,7 @@ use super::names::{counted, shown};
 use super::source::Source;
 use super::table;
 
-/// What a value is called, the numbers of bytes that it can have, and the refusal of any other.
+/// What a value is called, the numbers of bytes that it can have, the least one first, and the refusal of any other.
 pub struct Kind {
     what: &'static str,
     sizes: &'static [usize],
@@ -93,14 +93,13 @@ fn in_text(text: &[u8]) -> Found {
     decoded.map_or(Found::Odd(text.len()), Found::Bytes)
 }
 
-/// A file of the right size is taken as it is, but for one that holds the digits of a shorter value and nothing else. One of
-/// another size may hold digits and a line end, or else is taken as it is.
+/// A file of the least size is taken as it is. One of another size may hold digits and a line end, or else is taken as it is: the
+/// digits of a short key, none or one of them missing, may be as many bytes as a long key has.
 fn in_file(bytes: Vec<u8>, sizes: &[usize]) -> Found {
     if bytes.len() > LONGEST {
         return Found::TooLong;
     }
-    let digits = sizes.contains(&(bytes.len() / 2)) && bytes.iter().all(u8::is_ascii_hexdigit);
-    if (sizes.contains(&bytes.len()) && !digits) || bytes.trim_ascii().is_empty() {
+    if bytes.len() == sizes[0] || bytes.trim_ascii().is_empty() {
         return Found::Bytes(bytes);
     }
     match in_text(bytes.trim_ascii()) {

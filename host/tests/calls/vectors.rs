@@ -24,12 +24,16 @@ fn digits(number: u128) -> String {
     format!("{number:032X}")
 }
 
-/// Appendix B and C.1, and C.3 for AES-256: key, plaintext, the state with which the second half of the rounds starts, ciphertext.
-const EXAMPLES: [[&str; 4]; 3] = [
-    [A1_KEY, "3243F6A8885A308D313198A2E0370734", "E0927FE8C86363C0D9B1355085B8BE01", "3925841D02DC09FBDC118597196A0B32"],
-    [KEY, M1, "C81677BC9B7AC93B25027992B0261996", "69C4E0D86A7B0430D8CDB78070B4C55A"],
-    [LONG_KEY, M1, "D653A4696CA0BC0F5ACAAB5DB96C5E7D", "8EA2B7CA516745BFEAFC49904B496089"],
+/// Appendix B and C.1, and C.3 for AES-256: key, plaintext, ciphertext.
+const EXAMPLES: [[&str; 3]; 3] = [
+    [A1_KEY, "3243F6A8885A308D313198A2E0370734", "3925841D02DC09FBDC118597196A0B32"],
+    [KEY, M1, "69C4E0D86A7B0430D8CDB78070B4C55A"],
+    [LONG_KEY, M1, "8EA2B7CA516745BFEAFC49904B496089"],
 ];
+
+/// Where round 6 starts in C.1, and round 8 in C.3: key, plaintext, state.
+const MIDDLETEXTS: [[&str; 3]; 2] =
+    [[KEY, M1, "C81677BC9B7AC93B25027992B0261996"], [LONG_KEY, M1, "D653A4696CA0BC0F5ACAAB5DB96C5E7D"]];
 
 /// Appendix A.1, and A.3 for AES-256: key, the number of a round key, and that round key.
 const SCHEDULES: [(&str, usize, &str); 5] = [
@@ -44,12 +48,15 @@ const A1_KEY: &str = "2B7E151628AED2A6ABF7158809CF4F3C";
 const A3_KEY: &str = "603DEB1015CA71BE2B73AEF0857D77811F352C073B6108D72D9810A30914DFF4";
 
 fn fips197_examples<C: Cipher>() {
-    for [key, plain, middletext, encrypted] in EXAMPLES {
+    for [key, plain, encrypted] in EXAMPLES {
+        let (cipher, plain) = (C::new(&bytes(key)), u128::from_be_bytes(block(plain)));
+        assert_eq!(digits(cipher.encrypt(plain)), encrypted);
+        assert_eq!(cipher.decrypt(cipher.encrypt(plain)), plain);
+    }
+    for [key, plain, middletext] in MIDDLETEXTS {
         let (cipher, plain) = (C::new(&bytes(key)), u128::from_be_bytes(block(plain)));
         assert_eq!(digits(cipher.first_half(plain)), middletext);
-        assert_eq!(digits(cipher.encrypt(plain)), encrypted);
         assert_eq!(digits(cipher.second_half_back(cipher.encrypt(plain))), middletext);
-        assert_eq!(cipher.decrypt(cipher.encrypt(plain)), plain);
     }
     for (key, round, expected) in SCHEDULES {
         assert_eq!(digits(C::new(&bytes(key)).round_key(round)), expected, "{key}, round key {round}");

@@ -60,7 +60,8 @@ fn other_numbers_of_digits_are_refused() {
     }
 }
 
-/// 32 characters that are all digits are those of a short key, as they are with a line end. Any other 32 bytes are a long key.
+/// 32 characters that are all digits are those of a short key, and 31 with a line end are refused as they would be without it. Any
+/// other 32 bytes are a long key.
 #[test]
 fn a_long_key_comes_from_a_file_as_bytes_or_digits() {
     let folder = Folder::new("files");
@@ -68,6 +69,8 @@ fn a_long_key_comes_from_a_file_as_bytes_or_digits() {
     folder.write("digits", LONG_KEY.as_bytes());
     folder.write("line", format!("{LONG_KEY}\n").as_bytes());
     folder.write("short", KEY.as_bytes());
+    folder.write("cut", format!("{}\n", &KEY[1..]).as_bytes());
+    folder.write("cut-twice", format!("{}\r\n", &KEY[2..]).as_bytes());
     folder.write("text", b"thirty-two characters, no digits");
     folder.write("31", &[7; 31]);
     folder.write("33", &[7; 33]);
@@ -77,6 +80,8 @@ fn a_long_key_comes_from_a_file_as_bytes_or_digits() {
     }
     seal("@short").exits(0).prints(&sealed(&digits(KEY)));
     seal("@text").exits(0).prints(&sealed(b"thirty-two characters, no digits"));
+    seal("@cut").exits(1).tells("refusal 1: --key @cut has 31 hexadecimal digits, and a key has 32 or 64.");
+    seal("@cut-twice").exits(1).tells("refusal 1: --key @cut-twice has 15 bytes, and a key has 16 or 32.");
     seal("@31").exits(1).tells("refusal 1: --key @31 has 31 bytes, and a key has 16 or 32.");
     seal("@33").exits(1).tells("refusal 1: --key @33 has 33 bytes, and a key has 16 or 32.");
     // Only a key has two lengths.
