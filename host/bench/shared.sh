@@ -1,4 +1,5 @@
 # What the benchmarks' scripts share. They read it in, with `here` being this folder.
+# shellcheck shell=sh disable=SC2034,SC2154
 flags='-std=c99 -O3 -Wall -Wextra -Wpedantic -Werror'
 
 out=$(mktemp -d)

@@ -25,6 +25,7 @@ fn sealed_under(random: &mut Random, key: &Key) {
     for length in LENGTHS {
         let message = random.bytes(length);
         let whole = seal(key, &iv, &message);
+        assert!(whole.is_ok());
         for (runs, threads) in RUNS.iter().flat_map(|&runs| THREADS.map(|threads| (runs, threads))) {
             assert!(seal_in_runs(key, &iv, &message, runs, threads) == whole, "{length} bytes, {runs} runs, {threads} threads");
         }

@@ -1,11 +1,14 @@
-//! The published vectors: of FIPS 197, of the mode's paper, and the examples of document 01.
+//! The published vectors: of FIPS 197, of the mode's paper, and the examples of document 01. The records of vectors/make-mode-vectors.
 
-use balzenoh::{close, hex, jump, open, seal_run, Iv, Key, Kind, Refusal};
+use std::fs;
+use std::path::Path;
+
+use balzenoh::{close, hex, jump, open, seal, seal_run, Iv, Key, Kind, Refusal};
 
 use crate::support::aesni::{self, AesNi};
 use crate::support::cipher::Cipher;
 use crate::support::fips197::Fips197;
-use crate::support::mode::{divided_by_x, divided_by_x_power, times_x, Mode};
+use crate::support::mode::{divided_by_x, divided_by_x_power, padded, times_x, Mode};
 
 const KEY: &str = "000102030405060708090A0B0C0D0E0F";
 const LONG_KEY: &str = "000102030405060708090A0B0C0D0E0F101112131415161718191A1B1C1D1E1F";
@@ -142,6 +145,25 @@ fn the_library_meets_the_papers_vectors() {
     // Row 7's example: the published block ends in FF.
     let sealed = [&iv.as_bytes()[..], &c1, tag.as_bytes()].concat();
     assert_eq!(open(&key, &sealed), Err(Refusal::Padding));
+}
+
+/// Under keys of 16 and of 32 bytes. A line has key, IV, message and sealed record.
+#[test]
+fn the_program_in_python_seals_the_same_records() {
+    for (name, key_length) in [("sealed.txt", 16), ("sealed256.txt", 32)] {
+        let path = Path::new(env!("CARGO_MANIFEST_DIR")).join("../crates/cases/data").join(name);
+        let lines = fs::read_to_string(path).expect("sealed records");
+        assert_eq!(lines.lines().count(), 128);
+        for line in lines.lines() {
+            let fields: Vec<_> = line.split(' ').map(bytes).collect();
+            let [key, iv, message, record] = &fields[..] else { panic!("{name}: {line}") };
+            let iv = iv[..].try_into().expect("16 bytes");
+            assert_eq!(key.len(), key_length);
+            assert_eq!(&Mode::<Fips197>::new(key, &iv).seal_blocks(&iv, &padded(message)), record);
+            let key = Key::from_slice(key).expect("a key");
+            assert_eq!(seal(&key, &Iv::from(iv), message).as_ref(), Ok(record));
+        }
+    }
 }
 
 /// Cards (a) to (d), and ticket P1's example.
