@@ -3,8 +3,7 @@
 
        builds ROUNDS
 */
-#include "report.h"
-#include "timing.h"
+#include "rows.h"
 
 #include <stdio.h>
 #include <stdlib.h>
@@ -16,35 +15,23 @@ BUILDS
 static const struct contestant *const builds[] = {BUILDS};
 enum { COUNT = sizeof builds / sizeof builds[0] };
 
-static work *const tasks[TASKS] = {seal_list, open_list, check_list, encrypt_blocks, decrypt_blocks};
-static double best[SIZES][TASKS][COUNT];
-
-static void measure_round(void) {
-    for (int task = 0; task < TASKS; task++)
-        for (int build = 0; build < COUNT; build++) {
-            measure(&best[LONG][task][build], 1, tasks[task], builds[build], LONG_LIST);
-            measure(&best[SHORT][task][build], 100, tasks[task], builds[build], SHORT_LIST);
-        }
-}
+static times best[COUNT];
 
 static void print_rates(int size) {
-    char what[80];
-    snprintf(what, sizeof what, "%zu bytes, MB/s", 16 * blocks_of[size]);
-    printf("%-28s", what);
-    for (int task = 0; task < TASKS; task++)
-        printf("%13s", task_names[task]);
+    double figures[TASKS];
+    char name[80];
+    print_head(size, "MB/s");
     for (int build = 0; build < COUNT; build++) {
-        printf("\n  %-26s", builds[build]->name);
         for (int task = 0; task < TASKS; task++)
-            printf("%13.1f", 16000.0 * (double)blocks_of[size] / best[size][task][build]);
+            figures[task] = 16000.0 * (double)blocks_of[size] / best[build][size][task];
+        print_row(builds[build]->name, 1, figures);
     }
     for (int build = 1; build < COUNT; build++) {
-        snprintf(what, sizeof what, "%s, times as fast", builds[build]->name);
-        printf("\n  %-26s", what);
         for (int task = 0; task < TASKS; task++)
-            printf("%13.3f", best[size][task][0] / best[size][task][build]);
+            figures[task] = best[0][size][task] / best[build][size][task];
+        snprintf(name, sizeof name, "%s, times as fast", builds[build]->name);
+        print_row(name, 3, figures);
     }
-    printf("\n");
 }
 
 int main(int count, char **arguments) {
@@ -55,7 +42,8 @@ int main(int count, char **arguments) {
     prepare();
     compare_results(builds, COUNT);
     for (int round = atoi(arguments[1]); round > 0; round--)
-        measure_round();
+        for (int build = 0; build < COUNT; build++)
+            measure_tasks(best[build], builds[build]);
     for (int size = 0; size < SIZES; size++)
         print_rates(size);
     return 0;

@@ -14,7 +14,7 @@ struct contestant {
     size_t (*open)(const uint8_t *key, const uint8_t *sealed, size_t length, uint8_t *message);
     /* Writes the run record of a ciphertext from block 0 on. */
     void (*check)(const uint8_t *key, const uint8_t *iv, const uint8_t *ciphertext, size_t length, uint8_t *record);
-    /* AES-128 of each block by itself. */
+    /* AES of each block by itself. */
     void (*encrypt)(const uint8_t *key, const uint8_t *blocks, size_t length, uint8_t *out);
     void (*decrypt)(const uint8_t *key, const uint8_t *blocks, size_t length, uint8_t *out);
 };

@@ -4,8 +4,8 @@
 #include <stdlib.h>
 #include <string.h>
 
-uint8_t key[16], iv[16], message[16 * LONG_LIST], output[16 * LONG_LIST + 32];
-static const uint8_t zeros[16];
+uint8_t key[32], iv[16], message[16 * LONG_LIST], output[16 * LONG_LIST + 32];
+static const uint8_t zeros[32];
 static uint8_t sealed_long[16 * LONG_LIST + 32], sealed_short[16 * SHORT_LIST + 32], sealed_zeros[16 * SHORT_LIST + 32];
 
 const uint8_t *sealed_record(size_t blocks) {
@@ -18,13 +18,17 @@ void prepare(void) {
         state = 1664525 * state + 1013904223;
         message[i] = (uint8_t)(state >> 24);
     }
-    for (size_t i = 0; i < 16; i++) {
+    for (size_t i = 0; i < sizeof key; i++)
         key[i] = (uint8_t)i;
+    for (size_t i = 0; i < sizeof iv; i++)
         iv[i] = message[7 * i];
-    }
-    ours.seal(key, iv, message, 16 * LONG_LIST - 1, sealed_long);
-    ours.seal(key, iv, message, 16 * SHORT_LIST - 1, sealed_short);
-    ours.seal(zeros, iv, message, 16 * SHORT_LIST - 1, sealed_zeros);
+    seal_records(&ours);
+}
+
+void seal_records(const struct contestant *who) {
+    who->seal(key, iv, message, 16 * LONG_LIST - 1, sealed_long);
+    who->seal(key, iv, message, 16 * SHORT_LIST - 1, sealed_short);
+    who->seal(zeros, iv, message, 16 * SHORT_LIST - 1, sealed_zeros);
 }
 
 void seal_list(const struct contestant *who, size_t blocks) {

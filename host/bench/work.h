@@ -42,12 +42,16 @@ work seal_with_helper;
 void start_helper(void);
 void stop_helper(void);
 
-/* The input: a key, an IV and a message, from which the sealed record of each length is made. */
+/* The input: a key, an IV and a message, from which the library makes the sealed record of each length. A contestant with a short key takes
+   the first 16 bytes of the key. */
 void prepare(void);
 
-extern uint8_t key[16], iv[16], message[16 * LONG_LIST];
+/* Makes the sealed records anew, under the key as this contestant takes it. */
+void seal_records(const struct contestant *who);
 
-/* The sealed record of the first 16 * blocks - 1 bytes of the message, as the library gives it. */
+extern uint8_t key[32], iv[16], message[16 * LONG_LIST];
+
+/* The sealed record of the first 16 * blocks - 1 bytes of the message. */
 const uint8_t *sealed_record(size_t blocks);
 
 /* What the last piece of work wrote, which the next one writes over. */

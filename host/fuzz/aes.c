@@ -47,23 +47,31 @@ void aes_start(void) {
         multiple[i / 256][i % 256] = product((uint8_t)(i / 256), (uint8_t)(i % 256));
 }
 
-/* Section 5.2: word i of the schedule is column i % 4 of round key i / 4. */
-void aes_expand(aes_keys *keys, const uint8_t key[16]) {
-    uint8_t word[44][4], constant = 1;
-    memcpy(word, key, 16);
-    for (int i = 4; i < 44; i++)
+uint8_t aes_sub_byte(uint8_t byte) {
+    return sbox[byte];
+}
+
+/* Section 5.2: word i of the schedule is column i % 4 of round key i / 4. The key has nk words. */
+void aes_expand(aes_keys *keys, const uint8_t *key, size_t key_len) {
+    uint8_t word[60][4], constant = 1;
+    int nk = (int)key_len / 4, words = 4 * (nk + 7);
+    keys->rounds = nk + 6;
+    keys->half = keys->rounds / 2;
+    memcpy(word, key, key_len);
+    for (int i = nk; i < words; i++)
         for (int row = 0; row < 4; row++) {
             uint8_t before = word[i - 1][row];
-            if (i % 4 == 0) {
+            if (i % nk == 0) {
                 before = sbox[word[i - 1][(row + 1) % 4]];
                 if (row == 0) {
                     before ^= constant;
                     constant = product(constant, 2);
                 }
-            }
-            word[i][row] = word[i - 4][row] ^ before;
+            } else if (nk > 6 && i % nk == 4)
+                before = sbox[before];
+            word[i][row] = word[i - nk][row] ^ before;
         }
-    for (int i = 0; i < 44; i++)
+    for (int i = 0; i < words; i++)
         for (int row = 0; row < 4; row++)
             keys->key[i / 4][row][i % 4] = word[i][row];
 }
@@ -117,7 +125,7 @@ static void rounds(const aes_keys *keys, state s, int from, int to) {
     for (int round = from; round <= to; round++) {
         sub_bytes(s, sbox);
         shift_rows(s, 1);
-        if (round < 10)
+        if (round < keys->rounds)
             mix_columns(s, matrix);
         add_round_key(s, keys->key[round]);
     }
@@ -127,7 +135,7 @@ static void rounds_back(const aes_keys *keys, state s, int from, int to) {
     static const uint8_t matrix[4] = {0x0e, 0x0b, 0x0d, 0x09};
     for (int round = from; round >= to; round--) {
         add_round_key(s, keys->key[round]);
-        if (round < 10)
+        if (round < keys->rounds)
             mix_columns(s, matrix);
         shift_rows(s, 3);
         sub_bytes(s, inverse_sbox);
@@ -138,21 +146,21 @@ void aes_first_half(const aes_keys *keys, uint8_t block[16]) {
     state s;
     to_state(s, block);
     add_round_key(s, keys->key[0]);
-    rounds(keys, s, 1, 5);
+    rounds(keys, s, 1, keys->half);
     from_state(block, s);
 }
 
 void aes_second_half(const aes_keys *keys, uint8_t block[16]) {
     state s;
     to_state(s, block);
-    rounds(keys, s, 6, 10);
+    rounds(keys, s, keys->half + 1, keys->rounds);
     from_state(block, s);
 }
 
 void aes_first_half_back(const aes_keys *keys, uint8_t block[16]) {
     state s;
     to_state(s, block);
-    rounds_back(keys, s, 5, 1);
+    rounds_back(keys, s, keys->half, 1);
     add_round_key(s, keys->key[0]);
     from_state(block, s);
 }
@@ -160,6 +168,6 @@ void aes_first_half_back(const aes_keys *keys, uint8_t block[16]) {
 void aes_second_half_back(const aes_keys *keys, uint8_t block[16]) {
     state s;
     to_state(s, block);
-    rounds_back(keys, s, 10, 6);
+    rounds_back(keys, s, keys->rounds, keys->half + 1);
     from_state(block, s);
 }

@@ -83,6 +83,11 @@ size_t draw_about(draw *d, size_t right) {
     }
 }
 
+size_t draw_key_length(draw *d, size_t right) {
+    static const uint8_t lengths[] = {0, 15, 16, 17, 24, 31, 32, 33, 48, 64};
+    return draw_rarely(d, 12) ? lengths[draw_below(d, sizeof lengths)] : right;
+}
+
 size_t draw_room(draw *d, size_t need) {
     switch (draw_below(d, 8)) {
     case 2:

@@ -31,6 +31,9 @@ size_t draw_length(draw *d);
 /* A length that should be `right`, and mostly is. */
 size_t draw_about(draw *d, size_t right);
 
+/* The length of a key that should have `right` bytes, and mostly has; else another that keys have, or one that none has. */
+size_t draw_key_length(draw *d, size_t right);
+
 /* The length of an output that needs `need` bytes: shorter, exact or longer. */
 size_t draw_room(draw *d, size_t need);
 

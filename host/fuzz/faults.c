@@ -1,5 +1,6 @@
 /* A deliberately wrong library, to see that the harness finds what is wrong: the linker's --wrap puts these functions over the right ones.
    FAULT in the environment names the fault; all else stays right. */
+#include "aes.h"
 #include "reference.h"
 
 #include <stdlib.h>
@@ -12,14 +13,71 @@ static int fault_is(const char *name) {
     return chosen != NULL && strcmp(chosen, name) == 0;
 }
 
-static const uint8_t no_key[16];
+static const uint8_t no_key[32];
 
-/* Whether this is the IV for which step 1 comes to zero under the key, so that the key replaces the start mask. Both have 16 bytes. */
-static int is_replaced(const uint8_t *key, const uint8_t *iv) {
+/* Whether this is the IV for which step 1 comes to zero under the key, so that the start mask is replaced. Both have right lengths. */
+static int is_replaced(const uint8_t *key, size_t key_len, const uint8_t *iv) {
     uint8_t rare[16];
-    reference_zero_mask_iv(key, rare);
+    reference_zero_mask_iv(key, key_len, rare);
     return memcmp(rare, iv, 16) == 0;
 }
+
+/* ---- AES-256 gone wrong: while `wrong` is set the reference goes by a cipher with the fault, and its answer is that of a wrong library */
+
+static int wrong;
+
+static int is_wrong_under(size_t key_len, const char *fault) {
+    return key_len == 32 && fault_is(fault);
+}
+
+/* The schedule of a long key, with no S-box on the words between two round constants. */
+static void expand_without_extra_subword(aes_keys *keys, const uint8_t *key) {
+    uint8_t word[60][4], constant = 1;
+    memcpy(word, key, 32);
+    for (int i = 8; i < 60; i++) {
+        for (int row = 0; row < 4; row++)
+            word[i][row] = word[i - 8][row] ^ (i % 8 == 0 ? aes_sub_byte(word[i - 1][(row + 1) % 4]) : word[i - 1][row]);
+        if (i % 8 == 0) {
+            word[i][0] ^= constant;
+            constant = (uint8_t)(constant << 1);
+        }
+    }
+    for (int i = 0; i < 60; i++)
+        for (int row = 0; row < 4; row++)
+            keys->key[i / 4][row][i % 4] = word[i][row];
+}
+
+static void swap_halves(uint8_t *swapped, const uint8_t *key) {
+    memcpy(swapped, key + 16, 16);
+    memcpy(swapped + 16, key, 16);
+}
+
+void __real_aes_expand(aes_keys *, const uint8_t *, size_t);
+void __wrap_aes_expand(aes_keys *keys, const uint8_t *key, size_t key_len) {
+    uint8_t swapped[32];
+    __real_aes_expand(keys, key, key_len);
+    if (!wrong)
+        return;
+    if (fault_is("halves-of-6-and-8"))
+        keys->half = 6;
+    if (fault_is("extra-subword-left-out"))
+        expand_without_extra_subword(keys, key);
+    if (fault_is("last-bytes-lent")) {
+        swap_halves(swapped, key);
+        __real_aes_expand(keys, swapped, key_len);
+    }
+}
+
+/* Closes with a start mask for which the key lent its last 16 bytes: they are handed over first, and the schedule is made of the key as it is. */
+static void close_with_the_last_bytes_lent(const uint8_t *key, const uint8_t *iv, const uint8_t *run, uint8_t *tag, size_t tag_len) {
+    uint8_t swapped[32];
+    swap_halves(swapped, key);
+    wrong = 1;
+    reference_close(swapped, 32, iv, 16, run, 24, tag, tag_len);
+    wrong = 0;
+}
+
+/* ---- the calls */
 
 uint8_t __real_balzenoh_seal(const uint8_t *, size_t, const uint8_t *, size_t, const uint8_t *, size_t, uint8_t *, size_t, size_t *);
 uint8_t __wrap_balzenoh_seal(const uint8_t *key, size_t key_len, const uint8_t *iv, size_t iv_len, const uint8_t *message, size_t message_len,
@@ -33,6 +91,13 @@ uint8_t __wrap_balzenoh_seal(const uint8_t *key, size_t key_len, const uint8_t *
         memset(out, 0, out_len);
         *length = 0;
         return 10;
+    }
+    if (fault_is("24-bytes-accepted") && refusal == 1 && key_len == 24)
+        return __real_balzenoh_seal(key, 16, iv, iv_len, message, message_len, out, out_len, length);
+    if (is_wrong_under(key_len, "extra-subword-left-out") && refusal == 0) {
+        wrong = 1;
+        reference_seal(key, key_len, iv, iv_len, message, message_len, out, out_len, length);
+        wrong = 0;
     }
     return refusal;
 }
@@ -75,7 +140,7 @@ uint8_t __wrap_balzenoh_seal_run(const uint8_t *key, size_t key_len, const uint8
         __real_balzenoh_seal_run(key, key_len, iv, iv_len, count, last, bytes, bytes_len, out, out_len, length, run, run_len);
         memcpy(run, right, 4);
     }
-    if (fault_is("zero-mask-judged-before-the-limit") && refusal == 4 && memcmp(key, no_key, 16) == 0 && is_replaced(key, iv))
+    if (fault_is("zero-mask-judged-before-the-limit") && refusal == 4 && memcmp(key, no_key, 16) == 0 && is_replaced(key, key_len, iv))
         return 10;
     if (fault_is("words-swapped-in-a-record") && refusal == 0)
         swap_words(run + 8);
@@ -93,9 +158,14 @@ uint8_t __wrap_balzenoh_check_run(const uint8_t *key, size_t key_len, const uint
         run[3] = (uint8_t)first;
         return 0;
     }
-    if (fault_is("start-mask-judged-before-its-replacement") && refusal == 0 && is_replaced(key, iv)) {
+    if (fault_is("start-mask-judged-before-its-replacement") && refusal == 0 && is_replaced(key, key_len, iv)) {
         memset(run, 0, run_len);
         return 10;
+    }
+    if (is_wrong_under(key_len, "halves-of-6-and-8") && refusal == 0) {
+        wrong = 1;
+        reference_check_run(key, key_len, iv, iv_len, first, bytes, bytes_len, run, run_len);
+        wrong = 0;
     }
     if (fault_is("input-read-beyond-its-end"))
         return refusal + 0 * *(volatile const uint8_t *)(bytes + bytes_len);
@@ -166,12 +236,12 @@ uint8_t __wrap_balzenoh_join_list(const uint8_t *records, size_t records_len, ui
 
 /* Closes a record whose upper word is read least significant byte first. */
 uint8_t __real_balzenoh_close(const uint8_t *, size_t, const uint8_t *, size_t, const uint8_t *, size_t, uint8_t *, size_t);
-static uint8_t close_from_the_low_end(const uint8_t *key, const uint8_t *iv, const uint8_t *run, uint8_t *tag, size_t tag_len) {
+static uint8_t close_from_the_low_end(const uint8_t *key, size_t key_len, const uint8_t *iv, const uint8_t *run, uint8_t *tag, size_t tag_len) {
     uint8_t other[24];
     memcpy(other, run, 24);
     for (size_t i = 0; i < 8; i++)
         other[8 + i] = run[15 - i];
-    return __real_balzenoh_close(key, 16, iv, 16, other, 24, tag, tag_len);
+    return __real_balzenoh_close(key, key_len, iv, 16, other, 24, tag, tag_len);
 }
 
 /* The first fault is wrong for one IV of each key only, the one for which the start mask comes out as zero; the second for one IV only. */
@@ -179,15 +249,17 @@ uint8_t __wrap_balzenoh_close(const uint8_t *key, size_t key_len, const uint8_t 
                               uint8_t *tag, size_t tag_len) {
     uint8_t refusal = __real_balzenoh_close(key, key_len, iv, iv_len, run, run_len, tag, tag_len);
     if (fault_is("zero-start-mask-kept") && refusal == 0)
-        tag[0] ^= is_replaced(key, iv);
-    if (fault_is("iv-of-a-zero-mask-refused-under-any-key") && refusal == 0 && is_replaced(no_key, iv)) {
+        tag[0] ^= is_replaced(key, key_len, iv);
+    if (fault_is("iv-of-a-zero-mask-refused-under-any-key") && refusal == 0 && is_replaced(no_key, key_len, iv)) {
         memset(tag, 0, tag_len);
         return 10;
     }
     if (fault_is("output-left-after-a-zero-mask") && refusal == 10 && tag_len > 0)
         tag[tag_len - 1] = 1;
     if (fault_is("word-read-from-the-low-end") && refusal == 0)
-        return close_from_the_low_end(key, iv, run, tag, tag_len);
+        return close_from_the_low_end(key, key_len, iv, run, tag, tag_len);
+    if (is_wrong_under(key_len, "last-bytes-lent") && refusal == 0)
+        close_with_the_last_bytes_lent(key, iv, run, tag, tag_len);
     return refusal;
 }
 

@@ -1,7 +1,7 @@
 /* The fuzzer's harness. It reads the fuzzer's bytes as a list of calls on one key, IV and message, and makes each of the library and of the
    reference. Many inputs are derived: genuine sealed records, some damaged; tags that are right over a text with no padding; records that
    are neighbours, often of equal or alternating counts; lists cut into runs; pairs of key and IV for which step 1 comes to zero, or nearly. So
-   calls get past the refusals that random bytes would end in. */
+   calls get past the refusals that random bytes would end in. The key has 16 bytes or 32. */
 #include "both.h"
 #include "draw.h"
 #include "reference.h"
@@ -12,6 +12,7 @@
 enum { CALLS = 16, LIMIT = 4000, RECORD = 24, RECORDS = 256, RUNS = 6 };
 
 static uint8_t key[64], iv[64], message[LONGEST], buffer[LONGEST], records[(RECORDS + 3) * RECORD];
+static size_t key_len;
 
 static slice bytes_of(const uint8_t *bytes, size_t len) {
     slice s = {bytes, len};
@@ -19,7 +20,7 @@ static slice bytes_of(const uint8_t *bytes, size_t len) {
 }
 
 static slice draw_key(draw *d) {
-    return bytes_of(key, draw_about(d, 16));
+    return bytes_of(key, draw_key_length(d, key_len));
 }
 
 static slice draw_iv(draw *d) {
@@ -50,7 +51,7 @@ static void call_open(draw *d) {
     memset(text, 0, 16 * blocks);
     memcpy(text, message, len);
     text[len] = 0x80;
-    reference_seal_text(key, iv, text, blocks, buffer);
+    reference_seal_text(key, key_len, iv, text, blocks, buffer);
     maybe_damage(d, buffer, 16 * blocks + 32);
     slice k = draw_key(d);
     slice sealed = bytes_of(buffer, draw_about(d, 16 * blocks + 32));
@@ -66,7 +67,7 @@ static void call_open_unpadded(draw *d) {
     size_t place = len - 1 - draw_below(d, 16), other = len - 1 - draw_below(d, 16);
     text[place] ^= draw_rarely(d, 2) ? draw_byte(d) : 0x80;
     text[other] ^= draw_rarely(d, 4) ? draw_byte(d) : 0;
-    reference_seal_text(key, iv, text, len / 16, buffer);
+    reference_seal_text(key, key_len, iv, text, len / 16, buffer);
     slice k = draw_key(d);
     both_open(k, bytes_of(buffer, len + 32), draw_room(d, len));
 }
@@ -208,7 +209,7 @@ static void call_close(draw *d) {
 static void call_test(draw *d) {
     static uint8_t tag[128];
     slice k = draw_key(d), v = draw_iv(d), run = draw_whole_record(d);
-    reference_close(key, 16, iv, 16, records, RECORD, tag, 16);
+    reference_close(key, key_len, iv, 16, records, RECORD, tag, 16);
     maybe_damage(d, tag, 16);
     both_test(k, v, run, bytes_of(tag, draw_about(d, 16)));
 }
@@ -234,11 +235,11 @@ static uint8_t seal_cut(const size_t *cuts, size_t runs, size_t i, size_t len) {
     uint8_t last = i + 1 == runs;
     size_t start = 16 * cuts[i], end = last ? len : 16 * cuts[i + 1];
     size_t need = last ? (end - start) / 16 * 16 + 16 : end - start;
-    uint8_t refusal =
-        both_seal_run(bytes_of(key, 16), bytes_of(iv, 16), (uint32_t)cuts[i], last, bytes_of(message + start, end - start), need, RECORD);
+    slice k = bytes_of(key, key_len), v = bytes_of(iv, 16), bytes = bytes_of(message + start, end - start);
+    uint8_t refusal = both_seal_run(k, v, (uint32_t)cuts[i], last, bytes, need, RECORD);
     memcpy(buffer + 16 + start, answer, need);
     memcpy(records + RECORD * i, answer_run, RECORD);
-    both_check_run(bytes_of(key, 16), bytes_of(iv, 16), (uint32_t)cuts[i], bytes_of(buffer + 16 + start, need), RECORD);
+    both_check_run(k, v, (uint32_t)cuts[i], bytes_of(buffer + 16 + start, need), RECORD);
     must_be_same("a checked run's record", answer_run, records + RECORD * i, RECORD);
     return refusal;
 }
@@ -255,6 +256,7 @@ static void draw_cuts(draw *d, size_t *cuts, size_t runs, size_t blocks) {
    nothing no run is sealed, and there is nothing to join. */
 static void call_cut(draw *d) {
     size_t len = draw_below(d, 1600), cuts[RUNS], runs = 1 + draw_below(d, RUNS), text = len / 16 * 16 + 16;
+    slice k = bytes_of(key, key_len), v = bytes_of(iv, 16);
     draw_cuts(d, cuts, runs, len / 16);
     for (size_t i = runs; i > 0; i--)
         if (seal_cut(cuts, runs, i - 1, len) != 0)
@@ -262,11 +264,11 @@ static void call_cut(draw *d) {
     memcpy(buffer, iv, 16);
     both_join_list(bytes_of(records, RECORD * runs), RECORD);
     memcpy(records, answer_run, RECORD);
-    both_close(bytes_of(key, 16), bytes_of(iv, 16), bytes_of(records, RECORD), 16);
+    both_close(k, v, bytes_of(records, RECORD), 16);
     memcpy(buffer + 16 + text, answer, 16);
-    both_seal(bytes_of(key, 16), bytes_of(iv, 16), bytes_of(message, len), text + 32);
+    both_seal(k, v, bytes_of(message, len), text + 32);
     must_be_same("a list sealed in runs", buffer, answer, text + 32);
-    both_open(bytes_of(key, 16), bytes_of(buffer, text + 32), text);
+    both_open(k, bytes_of(buffer, text + 32), text);
     must_be_same("a list sealed in runs and opened", answer, message, len);
 }
 
@@ -283,19 +285,37 @@ int LLVMFuzzerInitialize(int *count, char ***arguments) {
     return 0;
 }
 
-/* Often the key of zeros, and often the IV for which the key replaces the start mask, with one bit of either flipped or not. Key of zeros and that
-   IV together mask nothing. */
+/* Sets the whole key to zeros, its first 16 bytes, or those behind them. */
+static void draw_zeros(draw *d) {
+    switch (draw_below(d, 4)) {
+    case 2:
+        memset(key, 0, 16);
+        break;
+    case 3:
+        memset(key + 16, 0, sizeof key - 16);
+        break;
+    default:
+        memset(key, 0, sizeof key);
+    }
+}
+
+/* Often a key with zeros, and often the IV for which the key's first 16 bytes replace the start mask, with one bit of either flipped or not. Where
+   those bytes are zeros, key and IV mask nothing. */
 static void draw_pair(draw *d) {
     if (draw_rarely(d, 3))
-        memset(key, 0, sizeof key);
+        draw_zeros(d);
     if (!draw_rarely(d, 2))
         return;
-    reference_zero_mask_iv(key, iv);
-    maybe_damage(d, draw_rarely(d, 2) ? key : iv, 16);
+    reference_zero_mask_iv(key, key_len, iv);
+    if (draw_rarely(d, 2))
+        maybe_damage(d, key, key_len);
+    else
+        maybe_damage(d, iv, 16);
 }
 
 /* Key, IV and the message's beginning for all calls of an input; what follows in a long message is the same noise for all. */
 static void draw_list(draw *d) {
+    key_len = draw_rarely(d, 2) ? 32 : 16;
     draw_fill(d, key, sizeof key);
     draw_fill(d, iv, sizeof iv);
     draw_fill(d, message, 1024);

@@ -83,13 +83,17 @@ static poly encrypt(const aes_keys *keys, poly p) {
     return to_poly(block);
 }
 
-/* Step 1: makes the round keys, and gives the start mask, which the key replaces where it is zero. A call refuses, with 10, where it is
-   still zero after that. */
-static poly step_1(aes_keys *keys, const uint8_t *key, const uint8_t *iv) {
-    aes_expand(keys, key);
-    poly k = to_poly(key);
-    poly mask = sum(encrypt(keys, sum(to_poly(iv), k)), k);
-    return is_zero(mask) ? k : mask;
+static int is_key_length(size_t len) {
+    return len == 16 || len == 32;
+}
+
+/* Step 1: makes the round keys, and gives the start mask, which what the key lends replaces where it is zero: the key's first 16 bytes. A
+   call refuses, with 10, where it is still zero after that. */
+static poly step_1(aes_keys *keys, const uint8_t *key, size_t key_len, const uint8_t *iv) {
+    aes_expand(keys, key, key_len);
+    poly lent = to_poly(key);
+    poly mask = sum(encrypt(keys, sum(to_poly(iv), lent)), lent);
+    return is_zero(mask) ? lent : mask;
 }
 
 /* Step 2 over `blocks` blocks: the pre-authenticator begun from zero. `mask` is moved on. */
@@ -199,13 +203,13 @@ uint8_t reference_seal(const uint8_t *key, size_t key_len, const uint8_t *iv, si
     size_t blocks = message_len / 16 + 1;
     zero(out, out_len);
     *length = 0;
-    if (key_len != 16)
+    if (!is_key_length(key_len))
         return 1;
     if (iv_len != 16)
         return 2;
     if (message_len > 63999)
         return 3;
-    poly mask = step_1(&keys, key, iv);
+    poly mask = step_1(&keys, key, key_len, iv);
     if (is_zero(mask))
         return 10;
     if (out_len < 16 * blocks + 32)
@@ -222,12 +226,12 @@ uint8_t reference_open(const uint8_t *key, size_t key_len, const uint8_t *sealed
     aes_keys keys;
     zero(out, out_len);
     *length = 0;
-    if (key_len != 16)
+    if (!is_key_length(key_len))
         return 1;
     if (sealed_len < 48 || sealed_len > 64032 || sealed_len % 16 != 0)
         return 3;
     size_t text_len = sealed_len - 32;
-    poly mask = step_1(&keys, key, sealed);
+    poly mask = step_1(&keys, key, key_len, sealed);
     if (is_zero(mask))
         return 10;
     if (out_len < text_len)
@@ -252,7 +256,7 @@ uint8_t reference_seal_run(const uint8_t *key, size_t key_len, const uint8_t *iv
     zero(out, out_len);
     zero(run, run_len);
     *length = 0;
-    if (key_len != 16)
+    if (!is_key_length(key_len))
         return 1;
     if (iv_len != 16)
         return 2;
@@ -260,7 +264,7 @@ uint8_t reference_seal_run(const uint8_t *key, size_t key_len, const uint8_t *iv
         return 3;
     if (first + (uint64_t)blocks > LIMIT)
         return 4;
-    poly mask = step_1(&keys, key, iv);
+    poly mask = step_1(&keys, key, key_len, iv);
     if (is_zero(mask))
         return 10;
     if (out_len < 16 * blocks || run_len < RECORD)
@@ -276,7 +280,7 @@ uint8_t reference_check_run(const uint8_t *key, size_t key_len, const uint8_t *i
                             const uint8_t *bytes, size_t bytes_len, uint8_t *run, size_t run_len) {
     aes_keys keys;
     zero(run, run_len);
-    if (key_len != 16)
+    if (!is_key_length(key_len))
         return 1;
     if (iv_len != 16)
         return 2;
@@ -284,7 +288,7 @@ uint8_t reference_check_run(const uint8_t *key, size_t key_len, const uint8_t *i
         return 3;
     if (first + (uint64_t)(bytes_len / 16) > LIMIT)
         return 4;
-    poly mask = step_1(&keys, key, iv);
+    poly mask = step_1(&keys, key, key_len, iv);
     if (is_zero(mask))
         return 10;
     if (run_len < RECORD)
@@ -343,7 +347,7 @@ uint8_t reference_close(const uint8_t *key, size_t key_len, const uint8_t *iv, s
     zero(tag, tag_len);
     if (run_len != RECORD)
         return 24;
-    if (key_len != 16)
+    if (!is_key_length(key_len))
         return 1;
     if (iv_len != 16)
         return 2;
@@ -351,7 +355,7 @@ uint8_t reference_close(const uint8_t *key, size_t key_len, const uint8_t *iv, s
         return 4;
     if (!is_whole(run))
         return 9;
-    poly mask = step_1(&keys, key, iv);
+    poly mask = step_1(&keys, key, key_len, iv);
     if (is_zero(mask))
         return 10;
     if (tag_len < 16)
@@ -365,7 +369,7 @@ uint8_t reference_test(const uint8_t *key, size_t key_len, const uint8_t *iv, si
     aes_keys keys;
     if (run_len != RECORD)
         return 24;
-    if (key_len != 16)
+    if (!is_key_length(key_len))
         return 1;
     if (iv_len != 16)
         return 2;
@@ -375,7 +379,7 @@ uint8_t reference_test(const uint8_t *key, size_t key_len, const uint8_t *iv, si
         return 4;
     if (!is_whole(run))
         return 9;
-    poly mask = step_1(&keys, key, iv);
+    poly mask = step_1(&keys, key, key_len, iv);
     if (is_zero(mask))
         return 10;
     return is_zero(sum(closing_tag(&keys, mask, run), to_poly(tag))) ? 0 : 6;
@@ -394,17 +398,17 @@ uint8_t reference_jump(const uint8_t *mask, size_t mask_len, int32_t distance, u
     return 0;
 }
 
-void reference_seal_text(const uint8_t key[16], const uint8_t iv[16], const uint8_t *text, size_t blocks, uint8_t *sealed) {
+void reference_seal_text(const uint8_t *key, size_t key_len, const uint8_t iv[16], const uint8_t *text, size_t blocks, uint8_t *sealed) {
     aes_keys keys;
-    poly mask = step_1(&keys, key, iv);
+    poly mask = step_1(&keys, key, key_len, iv);
     seal_text(&keys, mask, iv, text, blocks, sealed);
 }
 
-/* The start mask comes out as zero where the cipher takes IV plus key to the key. */
-void reference_zero_mask_iv(const uint8_t key[16], uint8_t iv[16]) {
+/* The start mask comes out as zero where the cipher takes the IV plus what the key lends to what the key lends. */
+void reference_zero_mask_iv(const uint8_t *key, size_t key_len, uint8_t iv[16]) {
     aes_keys keys;
     uint8_t block[16];
-    aes_expand(&keys, key);
+    aes_expand(&keys, key, key_len);
     memcpy(block, key, 16);
     aes_second_half_back(&keys, block);
     aes_first_half_back(&keys, block);

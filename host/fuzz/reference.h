@@ -6,7 +6,8 @@
 #include <stddef.h>
 #include <stdint.h>
 
-/* To be called once, before all else. Stops the program where FIPS 197's example or the mode's published vector comes out wrong. */
+/* To be called once, before all else. Stops the program where one of FIPS 197's examples or the mode's published vector comes out
+   wrong. */
 void reference_start(void);
 
 uint8_t reference_seal(const uint8_t *key, size_t key_len, const uint8_t *iv, size_t iv_len, const uint8_t *message, size_t message_len,
@@ -26,11 +27,12 @@ uint8_t reference_test(const uint8_t *key, size_t key_len, const uint8_t *iv, si
                        const uint8_t *tag, size_t tag_len);
 uint8_t reference_jump(const uint8_t *mask, size_t mask_len, int32_t distance, uint8_t *out, size_t out_len);
 
-/* IV, ciphertext and tag of whole blocks, to which no padding is added. Steps 1 to 3 alone: no row of the table is asked. */
-void reference_seal_text(const uint8_t key[16], const uint8_t iv[16], const uint8_t *text, size_t blocks, uint8_t *sealed);
+/* IV, ciphertext and tag of whole blocks, to which no padding is added, under a key of 16 or 32 bytes. Steps 1 to 3 alone: no row of the
+   table is asked. */
+void reference_seal_text(const uint8_t *key, size_t key_len, const uint8_t iv[16], const uint8_t *text, size_t blocks, uint8_t *sealed);
 
-/* The one IV under which this key's start mask comes out as zero, so that the key replaces it: under the key of zeros, the IV with which
-   every call refuses. The cipher run backwards finds it. */
-void reference_zero_mask_iv(const uint8_t key[16], uint8_t iv[16]);
+/* The one IV under which this key's start mask comes out as zero, so that the key's first 16 bytes replace it: where those are zeros, the IV
+   with which every call refuses. The cipher run backwards finds it. The key has 16 or 32 bytes. */
+void reference_zero_mask_iv(const uint8_t *key, size_t key_len, uint8_t iv[16]);
 
 #endif

@@ -1,5 +1,5 @@
-/* The reference judged before it judges: FIPS 197's example (appendix C.1), the mode's published one- and two-block values, jumps back
-   between its published masks, and the IV of a mask of nothing, as OpenSSL gives it. */
+/* The reference judged before it judges: FIPS 197's examples (appendices A.3, C.1 and C.3), the mode's published one- and two-block values,
+   jumps back between its published masks, and the IVs of a mask of nothing, as OpenSSL gives them. */
 #include "aes.h"
 #include "reference.h"
 
@@ -24,14 +24,32 @@ static void must_be(const uint8_t *bytes, const char *digits, const char *what) 
     }
 }
 
-static void check_cipher(const uint8_t key[16], const uint8_t text[16]) {
+/* One example of FIPS 197, appendix C: its middletext, where the round after the first half of them starts, and its ciphertext. */
+static void check_cipher(const uint8_t *key, size_t key_len, const char *middletext, const char *ciphertext, const char *what) {
+    static const char text[] = "00112233445566778899aabbccddeeff";
     uint8_t block[16];
     aes_keys keys;
-    aes_expand(&keys, key);
-    memcpy(block, text, 16);
+    aes_expand(&keys, key, key_len);
+    from_hex(block, text);
     aes_first_half(&keys, block);
+    must_be(block, middletext, what);
     aes_second_half(&keys, block);
-    must_be(block, "69c4e0d86a7b0430d8cdb78070b4c55a", "FIPS 197, appendix C.1");
+    must_be(block, ciphertext, what);
+    aes_second_half_back(&keys, block);
+    must_be(block, middletext, what);
+    aes_first_half_back(&keys, block);
+    must_be(block, text, what);
+}
+
+/* The last round key of FIPS 197, appendix A.3, which stands column by column there. */
+static void check_schedule(void) {
+    uint8_t key[32], last[16];
+    aes_keys keys;
+    from_hex(key, "603deb1015ca71be2b73aef0857d77811f352c073b6108d72d9810a30914dff4");
+    aes_expand(&keys, key, sizeof key);
+    for (int i = 0; i < 16; i++)
+        last[i] = keys.key[14][i % 4][i / 4];
+    must_be(last, "fe4890d1e6188d0b046df344706c631e", "FIPS 197, appendix A.3");
 }
 
 /* The second block of the published text is the ciphertext of the first. */
@@ -57,22 +75,33 @@ static void check_jump(const char *mask, int32_t distance, const char *jumped, c
     must_be(out, jumped, what);
 }
 
-/* Under the key of zeros: `openssl enc -d -aes-128-ecb -nopad` of a block of zeros. */
-static void check_zero_mask(void) {
-    uint8_t none[16] = {0}, iv[16];
-    reference_zero_mask_iv(none, iv);
-    must_be(iv, "140F0F1011B5223D79587717FFD9EC3A", "the IV with which a key of zeros masks nothing");
+/* `openssl enc -d -aes-128-ecb -nopad` of a block of zeros, or -aes-256-ecb. The key begins with 16 zeros. */
+static void check_zero_mask(const uint8_t *key, size_t key_len, const char *expected) {
+    uint8_t iv[16];
+    reference_zero_mask_iv(key, key_len, iv);
+    must_be(iv, expected, "the IV with which a key that lends zeros masks nothing");
+}
+
+/* The keys 00 01 .. 0F and 00 01 .. 1F, and keys of zeros, the last one with 00 01 .. 0F behind 16 of them. */
+static void check_both_lengths(const uint8_t *key) {
+    uint8_t zeros[32] = {0};
+    check_cipher(key, 16, "c81677bc9b7ac93b25027992b0261996", "69c4e0d86a7b0430d8cdb78070b4c55a", "FIPS 197, appendix C.1");
+    check_cipher(key, 32, "d653a4696ca0bc0f5acaab5db96c5e7d", "8ea2b7ca516745bfeafc49904b496089", "FIPS 197, appendix C.3");
+    check_zero_mask(zeros, 16, "140F0F1011B5223D79587717FFD9EC3A");
+    check_zero_mask(zeros, 32, "67671CE1FA91DDEB0F8FBBB366B531B4");
+    memcpy(zeros + 16, key, 16);
+    check_zero_mask(zeros, 32, "2F2F1823901D914B8ABD3A4A09B20EB2");
 }
 
 void reference_start(void) {
-    uint8_t key[16], iv[16], block[16];
+    uint8_t key[32], iv[16], block[16];
     aes_start();
-    from_hex(key, "000102030405060708090A0B0C0D0E0F");
+    from_hex(key, "000102030405060708090A0B0C0D0E0F101112131415161718191A1B1C1D1E1F");
     from_hex(iv, "0123456789ABCDEF0123456789ABCDEF");
     from_hex(block, "00112233445566778899AABBCCDDEEFF");
-    check_cipher(key, block);
+    check_schedule();
+    check_both_lengths(key);
     check_mode(key, iv, block);
-    check_zero_mask();
     check_jump("00000000000000000000000000000001", -1, "80000000000000000000000000000043", "ticket P1's example");
     check_jump("FBDA5324122747B5193D945E1FA869D3", -1, "FDED29920913A3DA8C9ECA2F0FD434AA", "the second mask jumped back");
     check_jump("1E68C2E51D9A74F67A799130112CE065", -1, "8F3461728ECD3A7B3D3CC89808967071", "the mask after the last block jumped back");

@@ -1,16 +1,21 @@
 /*
- * balzenoh.h: sealed route lists, in Cipher-State mode over AES-128.
+ * balzenoh.h: sealed route lists, in Cipher-State mode over AES-128 or AES-256.
  *
  * WHAT THIS IS
  *
- * A route list is a message of 0 to 63,999 bytes. Sealing it under a key and an IV (16 bytes each)
- * enciphers it and adds a tag. Opening gives the message back, or turns the record down where the tag
- * is not the one that its ciphertext should have.
+ * A route list is a message of 0 to 63,999 bytes. Sealing it under a key (16 or 32 bytes) and an IV
+ * (16 bytes) enciphers it and adds a tag. Opening gives the message back, or turns the record down
+ * where the tag is not the one that its ciphertext should have.
  * The mode is that of document 000: Anderson, Beaver, Draelos, Schroeppel, Torgerson, "Cipher-State
  * (CS) Mode of Operation for AES". It takes its authentication from inside the cipher: the state
- * after five of the ten rounds of AES-128, the middletext, is mixed block by block into a
- * pre-authenticator, and the tag is made from that.
+ * after half of the rounds, the middletext, is mixed block by block into a pre-authenticator, and the
+ * tag is made from that.
  *
+ *  - Under a key of 16 bytes the cipher is AES-128, whose halves have five rounds each; under a key of
+ *    32 bytes it is AES-256, with seven each. The key's length alone says which.
+ *  - The start mask is the encryption of IV plus key, plus key (plus being exclusive or); where that is
+ *    zero the key replaces it. In these three places a key of 32 bytes lends its first 16; the cipher
+ *    takes all 32. The paper does not cover this: the rule is ours.
  *  - The padding is one byte 80 (hexadecimal) and then zero bytes, 1 to 16 bytes together, up to the
  *    next multiple of 16. So a list of n bytes has n / 16 + 1 blocks: 1 to 4,000 of them.
  *  - A sealed record is the IV, the ciphertext and the tag: 16 + 16 j + 16 bytes for j blocks.
@@ -36,13 +41,13 @@
  *    ciphertext blocks (document 000). Never use an IV twice under one key. The library does not
  *    choose IVs and cannot see that one is used again.
  *  - A key of zeros. It is no key: anyone who tries it opens every list under it. With one IV it is
- *    refused (10, below), with all others it is taken like any key. Load a real key before the first
- *    list.
- *  - Timing. The cipher's tables are indexed by secret bytes, and a key of zeros takes longer. Nothing
- *    is promised of time or caches. An archive on the other engine, which has no table indexed by
- *    data, is what host/engine builds; its answers are the same.
+ *    refused (10, below), with all others it is taken like any key. So is every key of 32 bytes whose
+ *    first 16 are zeros, each with an IV of its own. Load a real key before the first list.
+ *  - Timing. The cipher's tables are indexed by secret bytes, and a key that starts with 16 zeros takes
+ *    longer. Nothing is promised of time or caches. An archive on the other engine, which has no table
+ *    indexed by data, is what host/engine builds; its answers are the same.
  *  - The stack. Keys, masks and plaintext that were on it are not wiped.
- *  - Left out: the paper's hash finish, headers, and keys of 192 or 256 bits.
+ *  - Left out: the paper's hash finish, headers, and keys of 192 bits.
  *
  * CONVENTIONS
  *
@@ -96,7 +101,7 @@
  * ones that it can return, in this order.
  *
  *  24  a run record is not 24 bytes, or a list of them no multiple of 24
- *   1  the key is not 16 bytes
+ *   1  the key is neither 16 nor 32 bytes
  *   2  the IV is not 16 bytes
  *   3  the message is above 63,999 bytes; the sealed record below 48, above 64,032 or no multiple of
  *      16; a middle run or a checked run is no multiple of 16; the tag or the mask is not 16 bytes
@@ -104,9 +109,8 @@
  *      blocks, either way
  *   8  two records in turn of which the left one does not end where the right one starts
  *   9  the record to be closed or tested does not start at block 0 or has no block; an empty list
- *  10  the start mask is still zero after its replacement. It is the encryption of IV plus key, plus
- *      key (plus being exclusive or), and where that is zero the key replaces it. So the key is all
- *      zeros, and the IV the one with which each block would go out unmasked
+ *  10  the start mask is still zero after its replacement. So the first 16 bytes of the key are zeros,
+ *      and the IV is the one, under this key, with which each block would go out unmasked
  *   5  an output is shorter than its answer; in balzenoh_open, shorter than the ciphertext
  *   6  the tag differs
  *   7  the tag is right, but the last block is not padded as above
@@ -121,7 +125,8 @@
 extern "C" {
 #endif
 
-/* Bytes of a block, and so of a key, an IV, a mask, a pre-authenticator and a tag. */
+/* Bytes of a block, and so of an IV, a mask, a pre-authenticator and a tag. A key has as many, or twice
+   as many. */
 #define BALZENOH_BLOCK 16
 
 /* Bytes of a run record. */

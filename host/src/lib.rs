@@ -1,4 +1,4 @@
-//! Sealed route lists: Cipher-State mode over AES-128.
+//! Sealed route lists: Cipher-State mode over AES-128, or over AES-256 under a key of 32 bytes.
 //!
 //! The work is done by a static library in which every function is proved to meet its contract. This crate is a thin layer over
 //! it and is not proved itself: it hands slices over, turns the numbers of refusals into [`Refusal`], and spreads a list over
@@ -43,6 +43,7 @@ mod abi;
 #[allow(unsafe_code)]
 mod ffi;
 pub mod hex;
+mod key;
 mod mask;
 pub mod raw;
 mod record;
@@ -55,10 +56,11 @@ mod whole;
 #[allow(unsafe_code)]
 mod wipe;
 
+pub use key::Key;
 pub use mask::jump;
 pub use record::{close, join_list, test, RunRecord};
 pub use refusal::{Refusal, UnknownNumber};
 pub use run::{check_run, seal_run, seal_run_into, Kind};
 pub use spread::{check_in_runs, seal_in_runs};
-pub use values::{Iv, Key, Tag};
+pub use values::{Iv, Tag};
 pub use whole::{open, open_into, seal, seal_into};

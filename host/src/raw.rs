@@ -20,6 +20,7 @@ use crate::refusal::Refusal;
 ///
 /// let mut out = [0xA5; 48];
 /// assert_eq!(raw::seal(&[7; 16], &[1; 16], b"cage 12", &mut out), Ok(48));
+/// assert_eq!(raw::seal(&[7; 32], &[1; 16], b"cage 12", &mut out), Ok(48));
 /// assert_eq!(raw::seal(&[7; 15], &[1; 16], b"cage 12", &mut out), Err(Refusal::KeyLength));
 /// assert_eq!(out, [0; 48]);
 /// ```

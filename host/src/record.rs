@@ -4,10 +4,11 @@ use std::fmt;
 use std::str::FromStr;
 
 use crate::hex;
+use crate::key::Key;
 use crate::raw;
 use crate::refusal::Refusal;
 use crate::sizes::{BLOCK, RECORD};
-use crate::values::{Iv, Key, Tag};
+use crate::values::{Iv, Tag};
 use crate::wipe::{wipe, Wiped};
 
 /// What is kept of a run: where it starts, how many blocks it has, and the pre-authenticator of the run alone.

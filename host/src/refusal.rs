@@ -9,12 +9,12 @@ use std::fmt;
 ///
 /// let refusal = Key::from_slice(&[7; 15]).unwrap_err();
 /// assert_eq!(refusal, Refusal::KeyLength);
-/// assert!(refusal.to_string().starts_with("refusal 1: The key is not 16 bytes long."));
+/// assert!(refusal.to_string().starts_with("refusal 1: The key is neither 16 nor 32 bytes long."));
 /// ```
 #[derive(Clone, Copy, Debug, PartialEq, Eq, Hash)]
 #[non_exhaustive]
 pub enum Refusal {
-    /// 1: the key is not 16 bytes.
+    /// 1: the key is neither 16 nor 32 bytes.
     KeyLength,
     /// 2: the IV is not 16 bytes.
     IvLength,
@@ -32,8 +32,8 @@ pub enum Refusal {
     NotNeighbours,
     /// 9: the record is not one of a whole message, or the list of records is empty.
     NotWhole,
-    /// 10: the start mask is still zero after its replacement: the key is all zeros, and the IV the one with which each block
-    /// would go out unmasked.
+    /// 10: the start mask is still zero after its replacement: the first 16 bytes of the key are zeros, and the IV is the one with
+    /// which each block would go out unmasked.
     ZeroMask,
     /// 24: a run record is not 24 bytes.
     RecordLength,
@@ -57,8 +57,8 @@ const TABLE: [(u8, Refusal, &str); 11] = [
     (
         1,
         Refusal::KeyLength,
-        "The key is not 16 bytes long. Look at the key: it must be 32 hexadecimal digits, or a file of 16 bytes, with nothing \
-         missing and nothing added.",
+        "The key is neither 16 nor 32 bytes long. Look at the key: it must be 32 or 64 hexadecimal digits, or a file of 16 or 32 \
+         bytes, with nothing missing and nothing added.",
     ),
     (
         2,
@@ -112,8 +112,8 @@ const TABLE: [(u8, Refusal, &str); 11] = [
     (
         10,
         Refusal::ZeroMask,
-        "The key is all zeros, and with this IV nothing would hide the list. A key of zeros is no key. Load a real key, 16 bytes \
-         from a random source, into every machine that seals or opens this list.",
+        "The first 16 bytes of the key are zeros, and with this IV nothing would hide the list. A key of zeros is no key. Load a \
+         real key, 16 or 32 bytes from a random source, into every machine that seals or opens this list.",
     ),
     (
         24,

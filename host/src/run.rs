@@ -1,10 +1,11 @@
 //! Sealing and checking runs: consecutive blocks of a list, each run by itself.
 
+use crate::key::Key;
 use crate::raw;
 use crate::record::RunRecord;
 use crate::refusal::Refusal;
 use crate::sizes::{run_room, RECORD};
-use crate::values::{Iv, Key};
+use crate::values::Iv;
 use crate::wipe::Wiped;
 
 /// Whether other runs follow.

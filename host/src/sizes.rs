@@ -2,6 +2,8 @@
 
 /// A block.
 pub const BLOCK: usize = 16;
+/// A key: of AES-128, or of AES-256.
+pub const KEYS: [usize; 2] = [16, 32];
 /// A run record.
 pub const RECORD: usize = 24;
 /// The most blocks that a list has, and that a mask jumps, forward or back.

@@ -10,11 +10,12 @@ use std::panic::resume_unwind;
 use std::sync::{Mutex, PoisonError};
 use std::thread::{self, Builder};
 
+use crate::key::Key;
 use crate::record::{close, join_list, test, RunRecord};
 use crate::refusal::Refusal;
 use crate::run::{check_run, seal_run_into, Kind};
 use crate::sizes::{padded_blocks, sealed_room, AROUND, BLOCK, LIMIT, LONGEST_MESSAGE};
-use crate::values::{Iv, Key, Tag};
+use crate::values::{Iv, Tag};
 
 /// Seals a message in runs, on threads, and gives the very bytes of [`seal`](crate::seal).
 ///

@@ -1,4 +1,4 @@
-//! Key, IV and tag: 16 bytes each, and not to be mistaken for one another.
+//! IV and tag: 16 bytes each, and not to be mistaken for one another.
 
 use std::fmt;
 use std::str::FromStr;
@@ -6,13 +6,12 @@ use std::str::FromStr;
 use crate::hex;
 use crate::refusal::Refusal;
 use crate::sizes::BLOCK;
-use crate::wipe::wipe;
 
 /// A type of 16 bytes, and the refusal that a wrong length gets.
 macro_rules! sixteen_bytes {
     ($(#[$attribute:meta])* $name:ident, $refusal:ident) => {
         $(#[$attribute])*
-        #[derive(Clone)]
+        #[derive(Clone, Copy, PartialEq, Eq)]
         pub struct $name([u8; BLOCK]);
 
         impl $name {
@@ -76,24 +75,6 @@ macro_rules! sixteen_bytes {
 }
 
 sixteen_bytes! {
-    /// A key of AES-128. Its bytes are not printed, and are wiped at its end.
-    ///
-    /// A key that is moved may leave its bytes where it was: keep it in one place, and lend it. What it was made from is the
-    /// caller's, and nothing wipes that.
-    ///
-    /// Sixteen zero bytes are no key, though they are taken as one: with one IV they are refused ([`Refusal::ZeroMask`]), with all
-    /// others they are not.
-    ///
-    /// ```
-    /// use balzenoh::{Key, Refusal};
-    ///
-    /// let key: Key = "000102030405060708090A0B0C0D0E0F".parse()?;
-    /// assert_eq!(format!("{key:?}"), "Key(..)");
-    /// # Ok::<(), Refusal>(())
-    /// ```
-    Key, KeyLength
-}
-sixteen_bytes! {
     /// The initialisation vector. It must not be used twice under one key.
     ///
     /// ```
@@ -103,7 +84,6 @@ sixteen_bytes! {
     /// assert_eq!(iv.as_bytes()[..3], [0x01, 0x23, 0x45]);
     /// # Ok::<(), Refusal>(())
     /// ```
-    #[derive(Copy, PartialEq, Eq)]
     Iv, IvLength
 }
 sixteen_bytes! {
@@ -116,20 +96,7 @@ sixteen_bytes! {
     /// let tag = Tag::try_from(&sealed[sealed.len() - 16..])?;
     /// # Ok::<(), Refusal>(())
     /// ```
-    #[derive(Copy, PartialEq, Eq)]
     Tag, Length
-}
-
-impl Drop for Key {
-    fn drop(&mut self) {
-        wipe(&mut self.0);
-    }
-}
-
-impl fmt::Debug for Key {
-    fn fmt(&self, f: &mut fmt::Formatter<'_>) -> fmt::Result {
-        f.write_str("Key(..)")
-    }
 }
 
 impl fmt::Debug for Iv {
@@ -146,21 +113,20 @@ impl fmt::Debug for Tag {
 
 #[cfg(test)]
 mod tests {
-    use super::{Iv, Key, Tag};
+    use super::{Iv, Tag};
 
     #[test]
     fn a_wrong_length_gets_its_number() {
         for length in (0..40).filter(|&length| length != 16) {
             let bytes = vec![0; length];
-            assert_eq!(Key::from_slice(&bytes).unwrap_err().number(), 1);
             assert_eq!(Iv::from_slice(&bytes).unwrap_err().number(), 2);
             assert_eq!(Tag::from_slice(&bytes).unwrap_err().number(), 3);
         }
     }
 
     #[test]
-    fn a_key_does_not_show_its_bytes() {
-        assert_eq!(format!("{:?}", Key::from([0xAB; 16])), "Key(..)");
+    fn they_show_their_bytes() {
+        assert_eq!(format!("{:?}", Iv::from([0xAB; 16])), format!("Iv({})", "AB".repeat(16)));
         assert_eq!(format!("{:?}", Tag::from([0xAB; 16])), format!("Tag({})", "AB".repeat(16)));
     }
 }

@@ -1,16 +1,17 @@
 //! Sealing and opening whole lists.
 
+use crate::key::Key;
 use crate::raw;
 use crate::refusal::Refusal;
 use crate::sizes::{open_room, sealed_room};
-use crate::values::{Iv, Key};
+use crate::values::Iv;
 
 /// Seals a message of up to 63,999 bytes. The sealed record is the IV, the ciphertext and the tag.
 ///
 /// # Errors
 ///
-/// [`Refusal::Length`] for a longer message, [`Refusal::ZeroMask`] for the key of zeros with the one IV under which nothing would
-/// be masked.
+/// [`Refusal::Length`] for a longer message, [`Refusal::ZeroMask`] for a key whose first 16 bytes are zeros with the one IV under
+/// which nothing would be masked.
 ///
 /// ```
 /// use balzenoh::{seal, Iv, Key, Refusal};
@@ -19,6 +20,8 @@ use crate::values::{Iv, Key};
 /// assert_eq!(seal(&key, &iv, b"parcel 4711 -> cage 12")?.len(), 16 + 32 + 16);
 /// assert_eq!(seal(&key, &iv, &[0; 64_000]), Err(Refusal::Length));
 /// let (no_key, its_iv) = (Key::from([0; 16]), "140F0F1011B5223D79587717FFD9EC3A".parse()?);
+/// assert_eq!(seal(&no_key, &its_iv, b"parcel 4711 -> cage 12"), Err(Refusal::ZeroMask));
+/// let (no_key, its_iv) = (Key::from([0; 32]), "67671CE1FA91DDEB0F8FBBB366B531B4".parse()?);
 /// assert_eq!(seal(&no_key, &its_iv, b"parcel 4711 -> cage 12"), Err(Refusal::ZeroMask));
 /// # Ok::<(), Refusal>(())
 /// ```

@@ -1,11 +1,16 @@
-/* Prints the stack that each call was seen to use: the deepest over lists of 1 to 4,000 blocks, under a key and under the key of zeros, whose start
-   mask is looked at before all work. */
+/* Prints the stack that each call was seen to use: the deepest over lists of 1 to 4,000 blocks, under a key and under a key of zeros, whose start
+   mask is looked at before all work, each of 16 bytes and of 32. */
 #include "balzenoh.h"
 #include "paint.h"
 
 #include <stdio.h>
 
-static const uint8_t keys[][16] = {{1, 2, 3}, {0}}, iv[16] = {4, 5, 6}, *key;
+static const struct {
+    uint8_t bytes[32];
+    size_t length;
+} keys[] = {{{1, 2, 3}, 16}, {{0}, 16}, {{1, 2, 3}, 32}, {{0}, 32}};
+static const uint8_t iv[16] = {4, 5, 6}, *key;
+static size_t key_length;
 static uint8_t message[BALZENOH_LONGEST_MESSAGE], sealed[BALZENOH_LONGEST_SEALED], out[BALZENOH_LONGEST_SEALED];
 static uint8_t records[3][BALZENOH_RUN_RECORD], run[BALZENOH_RUN_RECORD], tag[16], mask[16] = {7, 8, 9};
 static uint8_t answer;
@@ -15,11 +20,11 @@ static uint32_t blocks;
 
 /* Calls that are not the measured one give what it works on: the record of blocks `first` to `end`, and the sealed list. */
 static void check_part(uint32_t first, uint32_t end, uint8_t *record) {
-    answer |= balzenoh_check_run(key, 16, iv, 16, first, sealed + 16, 16 * (size_t)(end - first), record, BALZENOH_RUN_RECORD);
+    answer |= balzenoh_check_run(key, key_length, iv, 16, first, sealed + 16, 16 * (size_t)(end - first), record, BALZENOH_RUN_RECORD);
 }
 
 static void prepare_sealed(void) {
-    answer |= balzenoh_seal(key, 16, iv, 16, message, 16 * (size_t)blocks - 1, sealed, sizeof sealed, &length);
+    answer |= balzenoh_seal(key, key_length, iv, 16, message, 16 * (size_t)blocks - 1, sealed, sizeof sealed, &length);
 }
 
 static void prepare_records(void) {
@@ -30,30 +35,30 @@ static void prepare_records(void) {
 
 static void prepare_whole(void) {
     check_part(0, blocks, run);
-    answer |= balzenoh_close(key, 16, iv, 16, run, sizeof run, tag, sizeof tag);
+    answer |= balzenoh_close(key, key_length, iv, 16, run, sizeof run, tag, sizeof tag);
 }
 
 static void prepare_nothing(void) {}
 
 static void seal(void) {
     CALLER();
-    answer |= balzenoh_seal(key, 16, iv, 16, message, 16 * (size_t)blocks - 1, out, sizeof out, &length);
+    answer |= balzenoh_seal(key, key_length, iv, 16, message, 16 * (size_t)blocks - 1, out, sizeof out, &length);
 }
 
 static void open(void) {
     CALLER();
-    answer |= balzenoh_open(key, 16, sealed, 16 * (size_t)blocks + 32, out, sizeof out, &length);
+    answer |= balzenoh_open(key, key_length, sealed, 16 * (size_t)blocks + 32, out, sizeof out, &length);
 }
 
 static void seal_run(void) {
     CALLER();
-    answer |= balzenoh_seal_run(key, 16, iv, 16, BALZENOH_LIMIT - blocks, 1, message, 16 * (size_t)blocks - 1, out, sizeof out, &length,
+    answer |= balzenoh_seal_run(key, key_length, iv, 16, BALZENOH_LIMIT - blocks, 1, message, 16 * (size_t)blocks - 1, out, sizeof out, &length,
                                 run, sizeof run);
 }
 
 static void check_run(void) {
     CALLER();
-    answer |= balzenoh_check_run(key, 16, iv, 16, BALZENOH_LIMIT - blocks, sealed + 16, 16 * (size_t)blocks, run, sizeof run);
+    answer |= balzenoh_check_run(key, key_length, iv, 16, BALZENOH_LIMIT - blocks, sealed + 16, 16 * (size_t)blocks, run, sizeof run);
 }
 
 static void join(void) {
@@ -68,12 +73,12 @@ static void join_list(void) {
 
 static void close(void) {
     CALLER();
-    answer |= balzenoh_close(key, 16, iv, 16, run, sizeof run, tag, sizeof tag);
+    answer |= balzenoh_close(key, key_length, iv, 16, run, sizeof run, tag, sizeof tag);
 }
 
 static void test(void) {
     CALLER();
-    answer |= balzenoh_test(key, 16, iv, 16, run, sizeof run, tag, sizeof tag);
+    answer |= balzenoh_test(key, key_length, iv, 16, run, sizeof run, tag, sizeof tag);
 }
 
 /* Forward and back: the deeper one counts. */
@@ -107,8 +112,10 @@ static uint32_t next(uint32_t number) {
 /* The most that a call was seen to use; 0 where that cannot be seen. */
 static size_t deepest(size_t call) {
     size_t most = 0;
-    for (size_t i = 0; i < sizeof keys / sizeof *keys; i++)
-        for (key = keys[i], blocks = 1; blocks <= BALZENOH_LIMIT; blocks = next(blocks)) {
+    for (size_t i = 0; i < sizeof keys / sizeof *keys; i++) {
+        key = keys[i].bytes;
+        key_length = keys[i].length;
+        for (blocks = 1; blocks <= BALZENOH_LIMIT; blocks = next(blocks)) {
             calls[call].prepare();
             size_t used = stack_used(calls[call].call);
             if (used == 0)
@@ -116,6 +123,7 @@ static size_t deepest(size_t call) {
             if (used > most)
                 most = used;
         }
+    }
     return most;
 }
 

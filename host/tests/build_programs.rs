@@ -51,6 +51,22 @@ fn the_benchmark_runs_builds_beside_each_other() {
     }
 }
 
+#[test]
+fn the_benchmark_runs_both_lengths_of_a_key() {
+    if !present("gcc") || !cfg!(bare_cipher) {
+        return println!("the benchmark of keys needs gcc and libaes_blocks.a: skipped");
+    }
+    let checkout = Checkout::new("keys");
+    let printed = told(&run(&checkout, "bench/keys", &["1"]));
+    for row in ["key of 16 bytes", "key of 32 bytes", "long to short", "rounds, 14 to 10"] {
+        assert_eq!(printed.matches(row).count(), 2, "{printed}");
+    }
+    assert!(told(&run(&checkout, "bench/keys", &["--help"])).contains("host/bench/keys [ROUNDS]"));
+    for wrong in [&["ten"][..], &["0"], &[""], &["1", "1"]] {
+        assert_eq!(run(&checkout, "bench/keys", wrong).status.code(), Some(64), "{wrong:?}");
+    }
+}
+
 /// A face with two engines, the first of them chosen.
 const FACE: &str = "pub const TABLES: u8 = 0;\npub const ARITHMETIC: u8 = 1;\npub const ENGINE: u8 = TABLES;\n";
 

@@ -54,7 +54,7 @@ fn prints(program: &Path, input: &[u8], lines: &str) {
 }
 
 /// The four lines of the reference.
-fn reference_lines(key: &[u8; 16], iv: &[u8; 16], block: &[u8; 16]) -> String {
+fn reference_lines(key: &[u8], iv: &[u8; 16], block: &[u8; 16]) -> String {
     let mode = Mode::<Fips197>::new(key, iv);
     let step = mode.forward(u128::from_be_bytes(*block), mode.start_mask);
     let tag = mode.tag(1, step.middletext);
@@ -95,10 +95,10 @@ fn other_inputs_give_the_lines_of_the_reference() {
 fn a_start_mask_of_zero_gives_way_to_the_key() {
     let Some(program) = program() else { return skipped() };
     let mut random = Random::new(23);
-    let ((key, iv), block) = (pairs::replaced(random.block()), random.block());
+    let ((key, iv), block) = (pairs::replaced(&random.block()), random.block());
     let lines = reference_lines(&key, &iv, &block);
     assert!(lines.starts_with(&format!("R1 {}\n", hex::encode(&key))));
-    prints(program, &[key, iv, block].concat(), &lines);
+    prints(program, &[&key[..], &iv, &block].concat(), &lines);
 }
 
 /// The calls refuse the key of zeros with that IV, and take it with any other.
@@ -106,10 +106,11 @@ fn a_start_mask_of_zero_gives_way_to_the_key() {
 fn a_mask_of_nothing_prints_nothing() {
     let Some(program) = program() else { return skipped() };
     let mut random = Random::new(24);
-    let (key, iv) = pairs::of_nothing();
-    prints(program, &[key, iv, random.block()].concat(), "");
-    for (key, iv) in [(key, random.block()), pairs::one_bit_from_the_iv(0), pairs::one_bit_from_the_key(0)] {
+    let zeros = pairs::NO_KEYS[0];
+    let (key, iv) = pairs::replaced(zeros);
+    prints(program, &[&key[..], &iv, &random.block()].concat(), "");
+    for (key, iv) in [(key, random.block()), pairs::one_bit_from_the_iv(zeros, 0), pairs::one_bit_from_the_key(zeros, 0)] {
         let block = random.block();
-        prints(program, &[key, iv, block].concat(), &reference_lines(&key, &iv, &block));
+        prints(program, &[&key[..], &iv, &block].concat(), &reference_lines(&key, &iv, &block));
     }
 }

@@ -27,7 +27,7 @@ pub enum Failure {
 /// What the exit statuses mean.
 pub const STATUSES: [(u8, &str); 16] = [
     (0, "done"),
-    (1, "the key is not 16 bytes"),
+    (1, "the key is neither 16 nor 32 bytes"),
     (2, "the IV is not 16 bytes"),
     (3, "a list, run, tag or mask has a length that it cannot have"),
     (4, "beyond the limit of 4,000 blocks"),
@@ -36,7 +36,7 @@ pub const STATUSES: [(u8, &str); 16] = [
     (7, "the list does not end as lists do"),
     (8, "the records do not follow each other"),
     (9, "not the record of a whole list, or no record at all"),
-    (10, "the key is all zeros, and with this IV nothing would hide the list: load a real key"),
+    (10, "the first 16 bytes of the key are zeros, and with this IV nothing would hide the list: load a real key"),
     (24, "a run record is not 24 bytes"),
     (USAGE, "the command line is wrong; nothing was touched"),
     (FAULT, "the demonstration went wrong, or the program or the library has a fault"),

@@ -105,6 +105,7 @@ pub const RECORD: &str = "--record";
 const MOST_THREADS: i64 = 256;
 
 const SIXTEEN: &str = "32 hexadecimal digits, or @FILE";
+const SIXTEEN_OR_32: &str = "32 or 64 hexadecimal digits, or @FILE";
 
 const fn needed(long: &'static str, value: Value, text: &'static str) -> Opt {
     Opt { long, short: None, value, needed: true, text }
@@ -115,7 +116,7 @@ const fn optional(long: &'static str, value: Value, text: &'static str) -> Opt {
 }
 
 const fn key() -> Opt {
-    needed(KEY, Value::Digits("KEY"), SIXTEEN)
+    needed(KEY, Value::Digits("KEY"), SIXTEEN_OR_32)
 }
 
 const fn iv(text: &'static str) -> Opt {

@@ -3,7 +3,7 @@
 use std::ffi::OsStr;
 use std::os::unix::ffi::OsStrExt;
 
-use balzenoh::sizes::{BLOCK, RECORD as RECORD_SIZE};
+use balzenoh::sizes::{BLOCK, KEYS, RECORD as RECORD_SIZE};
 use balzenoh::{hex, Refusal};
 
 use super::args::Args;
@@ -13,18 +13,18 @@ use super::names::{counted, shown};
 use super::source::Source;
 use super::table;
 
-/// What a value is called, the bytes that it has, and the refusal of any other number of bytes.
+/// What a value is called, the numbers of bytes that it can have, the least one first, and the refusal of any other.
 pub struct Kind {
     what: &'static str,
-    size: usize,
+    sizes: &'static [usize],
     refusal: Refusal,
 }
 
-const KEY: Kind = Kind { what: "a key", size: BLOCK, refusal: Refusal::KeyLength };
-const IV: Kind = Kind { what: "an IV", size: BLOCK, refusal: Refusal::IvLength };
-const TAG: Kind = Kind { what: "a tag", size: BLOCK, refusal: Refusal::Length };
-const MASK: Kind = Kind { what: "a mask", size: BLOCK, refusal: Refusal::Length };
-const RECORD: Kind = Kind { what: "a record", size: RECORD_SIZE, refusal: Refusal::RecordLength };
+const KEY: Kind = Kind { what: "a key", sizes: &KEYS, refusal: Refusal::KeyLength };
+const IV: Kind = Kind { what: "an IV", sizes: &[BLOCK], refusal: Refusal::IvLength };
+const TAG: Kind = Kind { what: "a tag", sizes: &[BLOCK], refusal: Refusal::Length };
+const MASK: Kind = Kind { what: "a mask", sizes: &[BLOCK], refusal: Refusal::Length };
+const RECORD: Kind = Kind { what: "a record", sizes: &[RECORD_SIZE], refusal: Refusal::RecordLength };
 
 /// A file that holds more is no value: it has room for the digits of the longest value, and some space around them.
 const LONGEST: usize = 256;
@@ -73,7 +73,7 @@ fn read(name: &str, value: &OsStr, kind: &Kind, faults: &mut Faults) -> Result<V
                 Failure::File(what) => Failure::File(format!("{name}: {what}")),
                 other => other,
             })?;
-            (format!("{name} {}", shown(value)), in_file(bytes, kind.size))
+            (format!("{name} {}", shown(value)), in_file(bytes, kind.sizes))
         }
     };
     if let Some(fault) = fault(&name, &found, kind) {
@@ -93,12 +93,13 @@ fn in_text(text: &[u8]) -> Found {
     decoded.map_or(Found::Odd(text.len()), Found::Bytes)
 }
 
-/// A file of the right size is taken as it is. One of another size may hold digits and a line end, or else is taken as it is.
-fn in_file(bytes: Vec<u8>, size: usize) -> Found {
+/// A file of the least size is taken as it is. One of another size may hold digits and a line end, or else is taken as it is: the
+/// digits of a short key, none or one of them missing, may be as many bytes as a long key has.
+fn in_file(bytes: Vec<u8>, sizes: &[usize]) -> Found {
     if bytes.len() > LONGEST {
         return Found::TooLong;
     }
-    if bytes.len() == size || bytes.trim_ascii().is_empty() {
+    if bytes.len() == sizes[0] || bytes.trim_ascii().is_empty() {
         return Found::Bytes(bytes);
     }
     match in_text(bytes.trim_ascii()) {
@@ -108,10 +109,10 @@ fn in_file(bytes: Vec<u8>, size: usize) -> Found {
 }
 
 /// What is wrong with a value, if anything. The value itself may be a key, and is not repeated.
-fn fault(name: &str, found: &Found, Kind { what, size, .. }: &Kind) -> Option<String> {
-    let digits = 2 * size;
+fn fault(name: &str, found: &Found, Kind { what, sizes, .. }: &Kind) -> Option<String> {
+    let (size, digits) = (one_of(sizes, 1), one_of(sizes, 2));
     Some(match found {
-        Found::Bytes(bytes) if bytes.len() == *size => return None,
+        Found::Bytes(bytes) if sizes.contains(&bytes.len()) => return None,
         Found::Bytes(bytes) => format!("{name} has {}, and {what} has {size}", counted(bytes.len(), "byte")),
         Found::Odd(number) => format!("{name} has {}, and {what} has {digits}", counted(*number, "hexadecimal digit")),
         Found::NoDigits => {
@@ -119,4 +120,9 @@ fn fault(name: &str, found: &Found, Kind { what, size, .. }: &Kind) -> Option<St
         }
         Found::TooLong => format!("{name} has more than {LONGEST} bytes, and {what} has {size}"),
     })
+}
+
+/// The sizes, each so many times, with a word between them.
+fn one_of(sizes: &[usize], times: usize) -> String {
+    sizes.iter().map(|size| (times * size).to_string()).collect::<Vec<_>>().join(" or ")
 }

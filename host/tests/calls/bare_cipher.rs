@@ -5,6 +5,7 @@ use crate::support::cipher::Cipher;
 use crate::support::fips197::Fips197;
 use crate::support::mode::number;
 use crate::support::openssl::{openssl, Way};
+use crate::support::pairs::KEY_LENGTHS;
 use crate::support::random::Random;
 
 #[rustfmt::skip]
@@ -25,7 +26,7 @@ fn library(way: Way, key: &[u8], blocks: &[u8], out: &mut [u8]) -> u8 {
     unsafe { function(key.as_ptr(), key.len(), blocks.as_ptr(), blocks.len(), out.as_mut_ptr(), out.len()) }
 }
 
-fn other<C: Cipher>(way: Way, key: &[u8; 16], blocks: &[u8]) -> Vec<u8> {
+fn other<C: Cipher>(way: Way, key: &[u8], blocks: &[u8]) -> Vec<u8> {
     let cipher = C::new(key);
     let one = |block: &[u8]| match way {
         Way::Encrypt => cipher.encrypt(number(block)),
@@ -37,8 +38,8 @@ fn other<C: Cipher>(way: Way, key: &[u8; 16], blocks: &[u8]) -> Vec<u8> {
 #[test]
 fn openssl_gives_the_same_blocks() {
     let mut random = Random::new(21);
-    for round in 0..40 {
-        let (key, blocks) = (random.block(), random.bytes(16 * 2_000));
+    for (round, key_length) in (0..40).flat_map(|round| KEY_LENGTHS.map(|length| (round, length))) {
+        let (key, blocks) = (random.bytes(key_length), random.bytes(16 * 2_000));
         for way in WAYS {
             let Some(expected) = openssl(way, &key, &blocks) else {
                 println!("no openssl program here: skipped");
@@ -46,7 +47,7 @@ fn openssl_gives_the_same_blocks() {
             };
             let mut out = random.bytes(blocks.len());
             assert_eq!(library(way, &key, &blocks, &mut out), 0);
-            assert!(out == expected, "round {round}");
+            assert!(out == expected, "round {round}, key {key_length}");
         }
     }
 }
@@ -54,17 +55,17 @@ fn openssl_gives_the_same_blocks() {
 #[test]
 fn both_other_ciphers_give_the_same_blocks() {
     let mut random = Random::new(22);
-    for round in 0..2_000 {
+    for (round, key_length) in (0..2_000).flat_map(|round| KEY_LENGTHS.map(|length| (round, length))) {
         // Every number of blocks up to 140 first, so that groups of 32 end everywhere.
         let count = if round <= 140 { round } else { random.below(40) };
-        let (key, blocks) = (random.block(), random.bytes(16 * count));
+        let (key, blocks) = (random.bytes(key_length), random.bytes(16 * count));
         for way in WAYS {
             let expected = other::<Fips197>(way, &key, &blocks);
             assert!(!aesni::available() || other::<AesNi>(way, &key, &blocks) == expected);
             let beyond = random.below(20);
             let mut out = random.bytes(blocks.len() + beyond);
             assert_eq!(library(way, &key, &blocks, &mut out), 0);
-            assert!(out == [expected, vec![0; beyond]].concat(), "round {round}");
+            assert!(out == [expected, vec![0; beyond]].concat(), "round {round}, key {key_length}");
         }
     }
 }
@@ -72,12 +73,12 @@ fn both_other_ciphers_give_the_same_blocks() {
 #[test]
 fn wrong_lengths_are_refused() {
     let mut random = Random::new(23);
-    for (key_length, length) in (0..=40).flat_map(|key| (0..=70).map(move |length| (key, length))) {
+    for (key_length, length) in (0..=48).flat_map(|key| (0..=70).map(move |length| (key, length))) {
         let (key, blocks, room) = (random.bytes(key_length), random.bytes(length), random.below(70));
         let expected = match (key_length, length % 16, room) {
-            (16, 0, room) if room >= length => 0,
-            (16, 0, _) => 5,
-            (16, _, _) => 3,
+            (16 | 32, 0, room) if room >= length => 0,
+            (16 | 32, 0, _) => 5,
+            (16 | 32, _, _) => 3,
             _ => 1,
         };
         for way in WAYS {

@@ -54,7 +54,8 @@ fn check(call: &Call, last: u8, random: &mut Random) {
 fn the_length_is_0_after_a_refusal() {
     let mut random = Random::new(31);
     for _ in 0..5_000 {
-        let key_length = random.mostly(16, 20);
+        let right = random.pick(&pairs::KEY_LENGTHS);
+        let key_length = random.mostly(right, 49);
         let ((key, iv), length) = (pairs::of_lengths(&mut random, [key_length, 16]), random.below(70));
         let (bytes, room, record_room) = (random.bytes(length), random.below(140), random.within(20, 28));
         let sealed = Mode::<Fips197>::new(&random.block(), &random.block()).seal_blocks(&iv, &padded(&bytes));
@@ -104,7 +105,7 @@ fn a_distance_is_the_lower_half_of_its_register() {
 #[rustfmt::skip]
 fn a_null_pointer_of_length_0_is_answered() {
     let (key, iv, no) = ([7; 16], [9; 16], null::<u8>());
-    let (no_key, its_iv) = pairs::of_nothing();
+    let (no_key, its_iv) = pairs::replaced(pairs::NO_KEYS[0]);
     let (mut out, mut run, mut length) = ([0xA5; 48], [0xA5; 24], NOISE);
     let (key, iv, out, run) = (key.as_ptr(), iv.as_ptr(), out.as_mut_ptr(), run.as_mut_ptr());
     let (no_key, its_iv) = (no_key.as_ptr(), its_iv.as_ptr());

@@ -29,7 +29,7 @@ fn records_of_any_numbers() {
 }
 
 /// The right tag, or it with one bit changed, or any.
-fn likely_tag(bench: &mut Bench, key: &[u8; 16], iv: &[u8; 16], count: u32, preauthenticator: [u8; 16]) -> [u8; 16] {
+fn likely_tag(bench: &mut Bench, key: &[u8], iv: &[u8; 16], count: u32, preauthenticator: [u8; 16]) -> [u8; 16] {
     if count > 4_000 || bench.random.once_in(4) {
         return bench.random.block();
     }
@@ -38,15 +38,16 @@ fn likely_tag(bench: &mut Bench, key: &[u8; 16], iv: &[u8; 16], count: u32, prea
     (right ^ bit).to_be_bytes()
 }
 
-/// Each argument with every length from 0 to 40, the others right or wrong.
+/// Each argument with every length from 0 to 48, the others right or wrong.
 fn every_length(bench: &mut Bench) {
-    for length in 0..=40 {
-        for lengths in [[length, 16, 24, 16], [16, length, 24, 16], [16, 16, length, 16], [16, 16, 24, length], [length; 4]] {
+    for (length, key) in (0..=48).flat_map(|length| pairs::KEY_LENGTHS.map(|key| (length, key))) {
+        for lengths in [[length, 16, 24, 16], [key, length, 24, 16], [key, 16, length, 16], [key, 16, 24, length], [length; 4]] {
             with_lengths(bench, lengths);
         }
     }
     for _ in 0..1_000 {
-        let lengths = [16, 16, 24, 16].map(|right| bench.random.mostly(right, 41));
+        let key = bench.random.pick(&pairs::KEY_LENGTHS);
+        let lengths = [key, 16, 24, 16].map(|right| bench.random.mostly(right, 49));
         with_lengths(bench, lengths);
     }
 }

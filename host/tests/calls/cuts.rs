@@ -4,7 +4,7 @@
 use crate::support::bench::Bench;
 use crate::support::call::Call;
 use crate::support::fips197::Fips197;
-use crate::support::mode::{padded, Mode};
+use crate::support::mode::{lent, padded, Mode};
 use crate::support::pairs;
 use crate::support::plan;
 use crate::support::random::Random;
@@ -132,7 +132,7 @@ fn random_length(random: &mut Random) -> usize {
 }
 
 /// Genuine, with any ciphertext and the right tag, damaged, or any bytes.
-fn random_sealed(random: &mut Random) -> ([u8; 16], Vec<u8>) {
+fn random_sealed(random: &mut Random) -> (Vec<u8>, Vec<u8>) {
     let (key, iv) = pairs::sealing(random);
     let length = random_length(random);
     let blocks = padded(&random.bytes(length));
@@ -143,8 +143,8 @@ fn random_sealed(random: &mut Random) -> ([u8; 16], Vec<u8>) {
         _ => mode.seal_blocks(&iv, &blocks),
     };
     if random.once_in(4) {
-        // The key of zeros keeps its IV: one bit more could make it the pair that is refused.
-        let from = if key == pairs::NO_KEY { 16 } else { 0 };
+        // A key that lends zeros keeps its IV: one bit more could make it a pair that is refused.
+        let from = if lent(&key) == 0 { 16 } else { 0 };
         let at = random.within(from, sealed.len() - 1);
         sealed[at] ^= 1 << random.below(8);
     }

@@ -4,6 +4,7 @@ use crate::support::bench::Bench;
 use crate::support::call::Call;
 use crate::support::fips197::Fips197;
 use crate::support::mode::{padded, Mode};
+use crate::support::pairs;
 use crate::support::plan;
 
 #[test]
@@ -41,9 +42,11 @@ fn swapped_blocks(bench: &mut Bench) {
     }
 }
 
-fn sealed_record(bench: &mut Bench, length: usize) -> ([u8; 16], Vec<u8>) {
-    let (key, iv, message) = (bench.random.block(), bench.random.block(), bench.random.bytes(length));
-    (key, Mode::<Fips197>::new(&key, &iv).seal_blocks(&iv, &padded(&message)))
+fn sealed_record(bench: &mut Bench, length: usize) -> (Vec<u8>, Vec<u8>) {
+    let key_length = bench.random.pick(&pairs::KEY_LENGTHS);
+    let (key, iv, message) = (bench.random.bytes(key_length), bench.random.block(), bench.random.bytes(length));
+    let sealed = Mode::<Fips197>::new(&key, &iv).seal_blocks(&iv, &padded(&message));
+    (key, sealed)
 }
 
 fn damaged(bench: &mut Bench, key: &[u8], sealed: &[u8], bits: &[usize]) {

@@ -16,6 +16,7 @@ mod documentation;
 mod groups;
 mod joining;
 mod jumping;
+mod keys;
 #[cfg(not(bare_cipher))]
 mod no_bare_cipher;
 mod opening;

@@ -35,7 +35,7 @@ fn every_size_around_the_edges() {
             bench.check(&Call::Open { key: &key, sealed: &vouched, room });
         }
     }
-    for key_length in 0..=40 {
+    for key_length in 0..=48 {
         let key = bench.random.bytes(key_length);
         for length in [0, 47, 48, 49, 64, 80, 64_033] {
             let sealed = bench.random.bytes(length);
@@ -80,7 +80,7 @@ fn likely_end(random: &mut Random) -> [u8; 16] {
 }
 
 /// The same IV and ciphertext with the tag that belongs to them, where the size is one of a sealed record.
-fn with_right_tag(key: &[u8; 16], sealed: &[u8]) -> Vec<u8> {
+fn with_right_tag(key: &[u8], sealed: &[u8]) -> Vec<u8> {
     if sealed.len() < 48 || !sealed.len().is_multiple_of(16) {
         return sealed.to_vec();
     }

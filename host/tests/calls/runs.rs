@@ -41,13 +41,15 @@ fn first_block_and_count_around_the_limit() {
     let mut bench = Bench::new(plan::RUN_EDGES);
     for first in (3_990..=4_002).chain([0, 1, 2, 1 << 31, u32::MAX - 1, u32::MAX]) {
         for length in 0..=192 {
-            check_all(&mut bench, [16, 16], first, length);
+            let key_length = bench.random.pick(&pairs::KEY_LENGTHS);
+            check_all(&mut bench, [key_length, 16], first, length);
         }
     }
     for (first, length) in (0..=3).flat_map(|first| (63_982..=64_002).map(move |length| (first, length))) {
-        check_all(&mut bench, [16, 16], first, length);
+        let key_length = bench.random.pick(&pairs::KEY_LENGTHS);
+        check_all(&mut bench, [key_length, 16], first, length);
     }
-    for (key_length, iv_length) in (0..=40).flat_map(|key| (0..=40).map(move |iv| (key, iv))) {
+    for (key_length, iv_length) in (0..=48).flat_map(|key| (0..=40).map(move |iv| (key, iv))) {
         for (first, length) in [(0, 16), (3_999, 17), (4_001, 5)] {
             check_all(&mut bench, [key_length, iv_length], first, length);
         }

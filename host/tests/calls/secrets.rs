@@ -7,22 +7,26 @@ use balzenoh::{Key, RunRecord};
 
 const NOISE: [u8; 16] = [0xA5; 16];
 
-/// Ends the value and gives the 16 bytes that then lie where `bytes` pointed.
-fn left_after_the_end<T>(value: T, bytes: fn(&T) -> *const [u8; 16]) -> [u8; 16] {
+/// Ends the value and gives the bytes that then lie where `bytes` pointed.
+fn left_after_the_end<T>(value: T, bytes: fn(&T) -> &[u8]) -> Vec<u8> {
     let mut value = Box::new(ManuallyDrop::new(value));
-    let place = bytes(&value);
+    let places = bytes(&value).as_ptr_range();
     // SAFETY: the value is not used again, and the box, which is still there, ends nothing.
     unsafe { ManuallyDrop::drop(&mut value) };
-    // SAFETY: the 16 bytes lie in the box, and any bytes are such an array.
-    let left = unsafe { ptr::read_volatile(place) };
+    let (start, length) = (places.start, places.end as usize - places.start as usize);
+    // SAFETY: the bytes lie in the box, and are no part of anything else.
+    let left = (0..length).map(|at| unsafe { ptr::read_volatile(start.add(at)) }).collect();
     drop(value);
     left
 }
 
 #[test]
 fn a_key_is_wiped_at_its_end() {
-    assert_eq!(left_after_the_end(Key::from(NOISE), |key| key.as_bytes()), [0; 16]);
-    assert_eq!(left_after_the_end(Key::from(NOISE).clone(), |key| key.as_bytes()), [0; 16]);
+    for noise in [&[0xA5; 16][..], &[0xA5; 32]] {
+        let key = Key::from_slice(noise).expect("a key");
+        assert_eq!(left_after_the_end(key.clone(), Key::as_bytes), vec![0; noise.len()]);
+        assert_eq!(left_after_the_end(key, Key::as_bytes), vec![0; noise.len()]);
+    }
 }
 
 #[test]

@@ -26,10 +26,10 @@ fn a_runs_first_mask_jumped_back_by_its_first_block() {
     for first in 0..4_000 {
         let ((key, iv), block) = (pairs::sealing(&mut random), random.block());
         let Mode { cipher, start_mask } = Mode::<Fips197>::new(&key, &iv);
-        let (ciphertext, record) =
-            seal_run(&Key::from(key), &Iv::from(iv), first, Kind::Middle, &block).expect("one block within the limit");
+        let (key, iv) = (Key::from_slice(&key).expect("a key"), Iv::from(iv));
+        let (ciphertext, record) = seal_run(&key, &iv, first, Kind::Middle, &block).expect("one block within the limit");
         must_lead_back(cipher.first_half_back(middletext(&record)) ^ number(&block), first, start_mask);
-        let record = check_run(&Key::from(key), &Iv::from(iv), first, &ciphertext).expect("one block within the limit");
+        let record = check_run(&key, &iv, first, &ciphertext).expect("one block within the limit");
         must_lead_back(cipher.second_half(middletext(&record)) ^ number(&ciphertext), first, start_mask);
     }
 }
@@ -41,7 +41,8 @@ fn the_mask_of_closing_jumped_back_by_the_count() {
         let ((key, iv), preauthenticator) = (pairs::sealing(&mut random), random.block());
         let Mode { cipher, start_mask } = Mode::<Fips197>::new(&key, &iv);
         let record = RunRecord { first: 0, count, preauthenticator };
-        let tag = close(&Key::from(key), &Iv::from(iv), &record).expect("the record of a whole list");
+        let key = Key::from_slice(&key).expect("a key");
+        let tag = close(&key, &Iv::from(iv), &record).expect("the record of a whole list");
         let preauthenticator = number(&preauthenticator);
         must_lead_back(cipher.decrypt(number(tag.as_bytes()) ^ preauthenticator) ^ preauthenticator, count, start_mask);
     }

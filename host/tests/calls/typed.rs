@@ -9,7 +9,8 @@ use crate::support::pairs;
 use crate::support::random::Random;
 
 fn key_and_iv(random: &mut Random) -> (Key, Iv) {
-    (Key::from(random.block()), Iv::from(random.block()))
+    let length = random.pick(&pairs::KEY_LENGTHS);
+    (Key::from_slice(&random.bytes(length)).expect("a key"), Iv::from(random.block()))
 }
 
 #[test]
@@ -51,9 +52,14 @@ fn lengths_out_of_range_are_refused() {
 
 #[test]
 fn a_mask_of_nothing_is_refused() {
-    let (key, iv) = pairs::of_nothing();
+    for key in pairs::NO_KEYS {
+        refused_in_every_call(pairs::replaced(key));
+    }
+}
+
+fn refused_in_every_call((key, iv): pairs::Pair) {
     let sealed = [iv; 3].concat();
-    let (key, iv, tag) = (Key::from(key), Iv::from(iv), Tag::from(iv));
+    let (key, iv, tag) = (Key::from_slice(&key).expect("a key"), Iv::from(iv), Tag::from(iv));
     let record = RunRecord { first: 0, count: 1, preauthenticator: [9; 16] };
     let refused = Refusal::ZeroMask;
     assert_eq!(seal(&key, &iv, b""), Err(refused));
@@ -81,6 +87,7 @@ fn runs_are_those_of_the_slices() {
                 .map(|length| (out[..length].to_vec(), RunRecord::from_bytes(&run).expect("24 bytes")));
             let given = seal_run(&key, &iv, first, kind, &bytes);
             assert_eq!(given, expected);
+            assert_eq!(given.is_ok(), last || length % 16 == 0);
             if let Ok((ciphertext, record)) = given {
                 assert_eq!(record.to_bytes(), run);
                 assert_eq!(check_run(&key, &iv, first, &ciphertext), Ok(record));
@@ -107,30 +114,32 @@ fn records_join_close_and_pass() {
     assert_eq!(close(&key, &iv, &right), Err(Refusal::NotWhole));
 }
 
-/// Slices and digits of every length: the right one gives the value, any other the refusal of its length.
+/// Slices and digits of every length: a right one gives the value, any other the refusal of its length.
 #[test]
 fn values_are_made_from_slices_and_digits() {
     let mut random = Random::new(45);
-    for length in 0..=40 {
+    for length in 0..=70 {
         let bytes = random.bytes(length);
-        let given = |right: usize, refusal| if length == right { Ok(bytes.clone()) } else { Err(refusal) };
+        let given = |right: &[usize], refusal| if right.contains(&length) { Ok(bytes.clone()) } else { Err(refusal) };
         let (slice, digits) = (&bytes[..], hex::encode(&bytes));
         for text in [&digits[..], &digits.to_lowercase()] {
-            assert_eq!(text.parse::<Key>().map(|key| key.as_ref().to_vec()), given(16, Refusal::KeyLength));
-            assert_eq!(text.parse::<Iv>().map(|iv| iv.as_ref().to_vec()), given(16, Refusal::IvLength));
-            assert_eq!(text.parse::<Tag>().map(|tag| tag.as_ref().to_vec()), given(16, Refusal::Length));
-            assert_eq!(text.parse::<RunRecord>().map(|record| record.to_bytes().to_vec()), given(24, Refusal::RecordLength));
+            assert_eq!(text.parse::<Key>().map(|key| key.as_ref().to_vec()), given(&[16, 32], Refusal::KeyLength));
+            assert_eq!(text.parse::<Iv>().map(|iv| iv.as_ref().to_vec()), given(&[16], Refusal::IvLength));
+            assert_eq!(text.parse::<Tag>().map(|tag| tag.as_ref().to_vec()), given(&[16], Refusal::Length));
+            assert_eq!(text.parse::<RunRecord>().map(|record| record.to_bytes().to_vec()), given(&[24], Refusal::RecordLength));
         }
-        assert_eq!(Key::try_from(slice).map(|key| key.as_ref().to_vec()), given(16, Refusal::KeyLength));
-        assert_eq!(Iv::try_from(slice).map(|iv| iv.as_ref().to_vec()), given(16, Refusal::IvLength));
-        assert_eq!(Tag::try_from(slice).map(|tag| tag.as_ref().to_vec()), given(16, Refusal::Length));
-        assert_eq!(RunRecord::try_from(slice).map(|record| record.to_bytes().to_vec()), given(24, Refusal::RecordLength));
+        assert_eq!(Key::try_from(slice).map(|key| key.as_ref().to_vec()), given(&[16, 32], Refusal::KeyLength));
+        assert_eq!(Iv::try_from(slice).map(|iv| iv.as_ref().to_vec()), given(&[16], Refusal::IvLength));
+        assert_eq!(Tag::try_from(slice).map(|tag| tag.as_ref().to_vec()), given(&[16], Refusal::Length));
+        assert_eq!(RunRecord::try_from(slice).map(|record| record.to_bytes().to_vec()), given(&[24], Refusal::RecordLength));
     }
 }
 
 #[test]
 fn text_that_is_no_digits_is_no_value() {
-    for text in ["0".repeat(31), "0".repeat(33), "G".repeat(32), format!(" {}", "0".repeat(31)), "é".repeat(16)] {
+    let near = [31, 33, 63, 65].map(|length| "0".repeat(length));
+    let other = ["G".repeat(32), "G".repeat(64), format!(" {}", "0".repeat(31)), "é".repeat(16), "é".repeat(32)];
+    for text in near.into_iter().chain(other) {
         assert_eq!(text.parse::<Key>().unwrap_err(), Refusal::KeyLength, "{text:?}");
         assert_eq!(text.parse::<Iv>().unwrap_err(), Refusal::IvLength, "{text:?}");
         assert_eq!(text.parse::<Tag>().unwrap_err(), Refusal::Length, "{text:?}");

@@ -1,33 +1,68 @@
-//! The published vectors: of FIPS 197, of the mode's paper, and the examples of document 01.
+//! The published vectors: of FIPS 197, of the mode's paper, and the examples of document 01. The records of vectors/make-mode-vectors.
 
-use balzenoh::{close, hex, jump, open, seal_run, Iv, Key, Kind, Refusal};
+use std::fs;
+use std::path::Path;
+
+use balzenoh::{close, hex, jump, open, seal, seal_run, Iv, Key, Kind, Refusal};
 
 use crate::support::aesni::{self, AesNi};
 use crate::support::cipher::Cipher;
 use crate::support::fips197::Fips197;
-use crate::support::mode::{divided_by_x, divided_by_x_power, times_x, Mode};
+use crate::support::mode::{divided_by_x, divided_by_x_power, padded, times_x, Mode};
 
 const KEY: &str = "000102030405060708090A0B0C0D0E0F";
+const LONG_KEY: &str = "000102030405060708090A0B0C0D0E0F101112131415161718191A1B1C1D1E1F";
 const IV: &str = "0123456789ABCDEF0123456789ABCDEF";
 const M1: &str = "00112233445566778899AABBCCDDEEFF";
 
+fn bytes(digits: &str) -> Vec<u8> {
+    hex::decode(digits).expect("digits")
+}
+
 fn block(digits: &str) -> [u8; 16] {
-    hex::decode(digits).expect("digits").try_into().expect("16 bytes")
+    bytes(digits).try_into().expect("16 bytes")
 }
 
 fn digits(number: u128) -> String {
     format!("{number:032X}")
 }
 
+/// Appendix B and C.1, and C.3 for AES-256: key, plaintext, ciphertext.
+const EXAMPLES: [[&str; 3]; 3] = [
+    [A1_KEY, "3243F6A8885A308D313198A2E0370734", "3925841D02DC09FBDC118597196A0B32"],
+    [KEY, M1, "69C4E0D86A7B0430D8CDB78070B4C55A"],
+    [LONG_KEY, M1, "8EA2B7CA516745BFEAFC49904B496089"],
+];
+
+/// Where round 6 starts in C.1, and round 8 in C.3: key, plaintext, state.
+const MIDDLETEXTS: [[&str; 3]; 2] =
+    [[KEY, M1, "C81677BC9B7AC93B25027992B0261996"], [LONG_KEY, M1, "D653A4696CA0BC0F5ACAAB5DB96C5E7D"]];
+
+/// Appendix A.1, and A.3 for AES-256: key, the number of a round key, and that round key.
+const SCHEDULES: [(&str, usize, &str); 5] = [
+    (A1_KEY, 1, "A0FAFE1788542CB123A339392A6C7605"),
+    (A1_KEY, 10, "D014F9A8C9EE2589E13F0CC8B6630CA6"),
+    (A3_KEY, 2, "9BA354118E6925AFA51A8B5F2067FCDE"),
+    (A3_KEY, 3, "A8B09C1A93D194CDBE49846EB75D5B9A"),
+    (A3_KEY, 14, "FE4890D1E6188D0B046DF344706C631E"),
+];
+
+const A1_KEY: &str = "2B7E151628AED2A6ABF7158809CF4F3C";
+const A3_KEY: &str = "603DEB1015CA71BE2B73AEF0857D77811F352C073B6108D72D9810A30914DFF4";
+
 fn fips197_examples<C: Cipher>() {
-    let examples = [
-        ("2B7E151628AED2A6ABF7158809CF4F3C", "3243F6A8885A308D313198A2E0370734", "3925841D02DC09FBDC118597196A0B32"),
-        (KEY, M1, "69C4E0D86A7B0430D8CDB78070B4C55A"),
-    ];
-    for (key, plain, encrypted) in examples {
-        let (cipher, plain) = (C::new(&block(key)), u128::from_be_bytes(block(plain)));
+    for [key, plain, encrypted] in EXAMPLES {
+        let (cipher, plain) = (C::new(&bytes(key)), u128::from_be_bytes(block(plain)));
         assert_eq!(digits(cipher.encrypt(plain)), encrypted);
         assert_eq!(cipher.decrypt(cipher.encrypt(plain)), plain);
+    }
+    for [key, plain, middletext] in MIDDLETEXTS {
+        let (cipher, plain) = (C::new(&bytes(key)), u128::from_be_bytes(block(plain)));
+        assert_eq!(digits(cipher.first_half(plain)), middletext);
+        assert_eq!(digits(cipher.second_half_back(cipher.encrypt(plain))), middletext);
+    }
+    for (key, round, expected) in SCHEDULES {
+        assert_eq!(digits(C::new(&bytes(key)).round_key(round)), expected, "{key}, round key {round}");
     }
 }
 
@@ -110,6 +145,25 @@ fn the_library_meets_the_papers_vectors() {
     // Row 7's example: the published block ends in FF.
     let sealed = [&iv.as_bytes()[..], &c1, tag.as_bytes()].concat();
     assert_eq!(open(&key, &sealed), Err(Refusal::Padding));
+}
+
+/// Under keys of 16 and of 32 bytes. A line has key, IV, message and sealed record.
+#[test]
+fn the_program_in_python_seals_the_same_records() {
+    for (name, key_length) in [("sealed.txt", 16), ("sealed256.txt", 32)] {
+        let path = Path::new(env!("CARGO_MANIFEST_DIR")).join("../crates/cases/data").join(name);
+        let lines = fs::read_to_string(path).expect("sealed records");
+        assert_eq!(lines.lines().count(), 128);
+        for line in lines.lines() {
+            let fields: Vec<_> = line.split(' ').map(bytes).collect();
+            let [key, iv, message, record] = &fields[..] else { panic!("{name}: {line}") };
+            let iv = iv[..].try_into().expect("16 bytes");
+            assert_eq!(key.len(), key_length);
+            assert_eq!(&Mode::<Fips197>::new(key, &iv).seal_blocks(&iv, &padded(message)), record);
+            let key = Key::from_slice(key).expect("a key");
+            assert_eq!(seal(&key, &Iv::from(iv), message).as_ref(), Ok(record));
+        }
+    }
 }
 
 /// Cards (a) to (d), and ticket P1's example.

@@ -13,7 +13,8 @@ fn after_the_rows_above_and_before_those_below() {
     let mut bench = Bench::new(plan::NO_MASK_ROWS);
     for length in [0, 1, 15, 16, 17, 31, 32, 100] {
         for _ in 0..10 {
-            let list = SealedList::new(&mut bench.random, pairs::of_nothing(), length);
+            let pair = pairs::of_nothing(&mut bench.random);
+            let list = SealedList::new(&mut bench.random, pair, length);
             keys_and_ivs_come_first(&mut bench, &list);
             lists_come_first(&mut bench, &list);
             runs_come_first(&mut bench, &list);
@@ -27,13 +28,15 @@ fn after_the_rows_above_and_before_those_below() {
 
 /// Rows 1 and 2, with zeros behind what is too long.
 fn keys_and_ivs_come_first(bench: &mut Bench, list: &SealedList) {
-    let (long_key, long_iv) = ([0; 40], [&list.iv[..], &[0; 24]].concat());
-    for length in (0..=40).filter(|&length| length != 16) {
-        for mut call in list.calls() {
+    let (long_key, long_iv) = ([&list.key[..], &[0; 32]].concat(), [&list.iv[..], &[0; 24]].concat());
+    for mut call in list.calls() {
+        for length in (0..=40).filter(|&length| length != 16) {
             if let Some(iv) = call.iv_mut() {
                 *iv = &long_iv[..length];
                 bench.refuses(2, &call);
             }
+        }
+        for length in pairs::wrong_key_lengths() {
             *call.key_mut().expect("a key") = &long_key[..length];
             bench.refuses(1, &call);
         }

@@ -4,6 +4,7 @@ mod bounds;
 mod commands;
 mod completions;
 mod inputs;
+mod key_lengths;
 mod left_behind;
 mod manual;
 mod messages;
@@ -26,4 +27,5 @@ mod support {
 }
 
 const KEY: &str = "000102030405060708090A0B0C0D0E0F";
+const LONG_KEY: &str = "000102030405060708090A0B0C0D0E0F101112131415161718191A1B1C1D1E1F";
 const IV: &str = "0123456789ABCDEF0123456789ABCDEF";

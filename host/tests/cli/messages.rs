@@ -10,16 +10,21 @@ use crate::{IV, KEY};
 fn a_refusal_says_which_value_is_wrong() {
     let folder = Folder::new("which");
     folder.write("key", &[0; 17]);
+    folder.write("24", &[0; 24]);
     folder.write("odd", format!("{}\n", &KEY[1..]).as_bytes());
     folder.write("many", &[b'x'; 70_000]);
     folder.write("run", &[0; 20]);
     let lines = [
         ("seal --key $K --iv ${I:2} run", "refusal 2: --iv has 15 bytes, and an IV has 16"),
-        ("seal --key ${K:1} --iv $I run", "refusal 1: --key has 31 hexadecimal digits, and a key has 32"),
-        ("seal --key 'no digits' --iv $I run", "refusal 1: --key is not made of hexadecimal digits, and a key has 32"),
-        ("seal --key @key --iv $I run", "refusal 1: --key @key has 17 bytes, and a key has 16"),
-        ("seal --key @odd --iv $I run", "refusal 1: --key @odd has 31 hexadecimal digits, and a key has 32"),
-        ("seal --key @many --iv $I run", "refusal 1: --key @many has more than 256 bytes, and a key has 16"),
+        ("seal --key ${K:1} --iv $I run", "refusal 1: --key has 31 hexadecimal digits, and a key has 32 or 64"),
+        ("seal --key 'no digits' --iv $I run", "refusal 1: --key is not made of hexadecimal digits, and a key has 32 or 64"),
+        ("seal --key $K${K:16} --iv $I run", "refusal 1: --key has 24 bytes, and a key has 16 or 32"),
+        ("open --key $K$K$K run", "refusal 1: --key has 48 bytes, and a key has 16 or 32"),
+        ("seal --key $K${K:1} --iv $I run", "refusal 1: --key has 63 hexadecimal digits, and a key has 32 or 64"),
+        ("seal --key @24 --iv $I run", "refusal 1: --key @24 has 24 bytes, and a key has 16 or 32"),
+        ("seal --key @key --iv $I run", "refusal 1: --key @key has 17 bytes, and a key has 16 or 32"),
+        ("seal --key @odd --iv $I run", "refusal 1: --key @odd has 31 hexadecimal digits, and a key has 32 or 64"),
+        ("seal --key @many --iv $I run", "refusal 1: --key @many has more than 256 bytes, and a key has 16 or 32"),
         ("seal --key $K --iv $I many", "refusal 3: many has more than 63,999 bytes"),
         ("seal --key $K --iv $I < many", "refusal 3: standard input has more than 63,999 bytes"),
         ("open --key $K run", "refusal 3: run has 20 bytes, and a sealed list has 48 to 64,032, a multiple of 16"),

@@ -1,17 +1,17 @@
-//! A key of zeros, with the IV under which nothing would be masked and with others.
+//! A key that lends zeros, with the IV under which nothing would be masked and with others.
 
 use balzenoh::hex;
 
 use crate::program::Folder;
-use crate::support::pairs;
+use crate::support::pairs::{self, NO_KEYS};
 use crate::IV;
 
 /// The record of one block, with the rest of its bytes zero.
 const RECORD: &str = "000000000000000100000000000000000000000000000000";
 
-/// A folder with the key of zeros, its IV, a list and a sealed list that starts with that IV.
-fn commissioned(name: &str) -> Folder {
-    let (folder, (key, iv)) = (Folder::new(name), pairs::of_nothing());
+/// A folder with a key of zeros, its IV, a list and a sealed list that starts with that IV.
+fn commissioned(name: &str, key: &[u8]) -> Folder {
+    let (folder, (key, iv)) = (Folder::new(name), pairs::replaced(key));
     folder.write("key", &key);
     folder.write("iv", format!("{}\n", hex::encode(&iv)).as_bytes());
     folder.write("list", b"parcel 4711 -> cage 12");
@@ -22,7 +22,12 @@ fn commissioned(name: &str) -> Folder {
 
 #[test]
 fn every_command_with_a_key_refuses_and_says_what_to_do() {
-    let folder = commissioned("every-command");
+    for key in NO_KEYS {
+        every_command_refuses(&commissioned("every-command", key));
+    }
+}
+
+fn every_command_refuses(folder: &Folder) {
     let files = folder.names();
     let under = "--key @key --iv @iv";
     let lines = [
@@ -42,7 +47,7 @@ fn every_command_with_a_key_refuses_and_says_what_to_do() {
         for old in line.split(' ').filter(|word| word.starts_with("old")) {
             folder.write(old, b"of yesterday");
         }
-        let told = folder.shell(&format!("$B {line}")).exits(10).tells("refusal 10: The key is all zeros");
+        let told = folder.shell(&format!("$B {line}")).exits(10).tells("refusal 10: The first 16 bytes of the key are zeros");
         assert!(told.stderr.contains("Load a real key"), "{}", told.stderr);
         told.prints(b"");
         assert_eq!(folder.names(), files, "{line}");
@@ -51,7 +56,7 @@ fn every_command_with_a_key_refuses_and_says_what_to_do() {
 
 #[test]
 fn what_else_is_wrong_comes_before_it() {
-    let folder = commissioned("before-it");
+    let folder = commissioned("before-it", NO_KEYS[1]);
     folder.write("long", &[0; 64_000]);
     let under = "--key @key --iv @iv";
     let lines = [
@@ -72,9 +77,11 @@ fn what_else_is_wrong_comes_before_it() {
 
 #[test]
 fn with_another_iv_it_is_taken_like_any_key() {
-    let folder = commissioned("another-iv");
-    folder.shell("$B seal --key @key --iv $I list -o new && $B check --key @key new").exits(0).prints(b"passes\n");
-    folder.shell("$B open --key @key new").exits(0).prints(b"parcel 4711 -> cage 12");
+    for key in NO_KEYS {
+        let folder = commissioned("another-iv", key);
+        folder.shell("$B seal --key @key --iv $I list -o new && $B check --key @key new").exits(0).prints(b"passes\n");
+        folder.shell("$B open --key @key new").exits(0).prints(b"parcel 4711 -> cage 12");
+    }
 }
 
 #[test]

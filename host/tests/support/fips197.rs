@@ -1,4 +1,5 @@
-//! AES-128 straight from FIPS 197: a state of four rows and four columns, and an S-box that is computed from the field's inverse.
+//! AES-128 and AES-256 straight from FIPS 197: a state of four rows and four columns, and an S-box that is computed from the
+//! field's inverse.
 
 use std::sync::OnceLock;
 
@@ -14,11 +15,11 @@ struct Boxes {
 
 pub struct Fips197 {
     boxes: &'static Boxes,
-    round_keys: [State; 11],
+    round_keys: Vec<State>,
 }
 
 impl Cipher for Fips197 {
-    fn new(key: &[u8; 16]) -> Self {
+    fn new(key: &[u8]) -> Self {
         let boxes = boxes();
         Self { boxes, round_keys: expand(boxes, key) }
     }
@@ -26,7 +27,7 @@ impl Cipher for Fips197 {
     fn first_half(&self, block: u128) -> u128 {
         let mut state = load(block);
         self.add_round_key(&mut state, 0);
-        for round in 1..=5 {
+        for round in 1..=self.half() {
             self.substitute(&mut state);
             shift_rows(&mut state);
             mix_columns(&mut state);
@@ -37,10 +38,10 @@ impl Cipher for Fips197 {
 
     fn second_half(&self, middletext: u128) -> u128 {
         let mut state = load(middletext);
-        for round in 6..=10 {
+        for round in self.half() + 1..=self.rounds() {
             self.substitute(&mut state);
             shift_rows(&mut state);
-            if round < 10 {
+            if round < self.rounds() {
                 mix_columns(&mut state);
             }
             self.add_round_key(&mut state, round);
@@ -50,7 +51,7 @@ impl Cipher for Fips197 {
 
     fn first_half_back(&self, middletext: u128) -> u128 {
         let mut state = load(middletext);
-        for round in (1..=5).rev() {
+        for round in (1..=self.half()).rev() {
             self.add_round_key(&mut state, round);
             mix_columns_back(&mut state);
             shift_rows_back(&mut state);
@@ -62,9 +63,9 @@ impl Cipher for Fips197 {
 
     fn second_half_back(&self, block: u128) -> u128 {
         let mut state = load(block);
-        for round in (6..=10).rev() {
+        for round in (self.half() + 1..=self.rounds()).rev() {
             self.add_round_key(&mut state, round);
-            if round < 10 {
+            if round < self.rounds() {
                 mix_columns_back(&mut state);
             }
             shift_rows_back(&mut state);
@@ -72,9 +73,21 @@ impl Cipher for Fips197 {
         }
         store(&state)
     }
+
+    fn round_key(&self, round: usize) -> u128 {
+        store(&self.round_keys[round])
+    }
 }
 
 impl Fips197 {
+    fn rounds(&self) -> usize {
+        self.round_keys.len() - 1
+    }
+
+    fn half(&self) -> usize {
+        self.rounds() / 2
+    }
+
     fn add_round_key(&self, state: &mut State, round: usize) {
         for (row, key_row) in state.iter_mut().zip(&self.round_keys[round]) {
             for (byte, key_byte) in row.iter_mut().zip(key_row) {
@@ -178,23 +191,24 @@ fn boxes() -> &'static Boxes {
     })
 }
 
-/// Section 5.2: 44 words of four bytes; a round key is four of them, one to a column.
-fn expand(boxes: &Boxes, key: &[u8; 16]) -> [State; 11] {
-    let mut words = [[0; 4]; 44];
+/// Section 5.2: the key has `nk` words of four bytes; a round key is four words of the schedule, one to a column.
+fn expand(boxes: &Boxes, key: &[u8]) -> Vec<State> {
+    let mut words: Vec<[u8; 4]> = key.chunks(4).map(|word| word.try_into().expect("4 bytes")).collect();
+    let nk = words.len();
+    let substituted = |word: [u8; 4]| word.map(|byte| boxes.forward[usize::from(byte)]);
     let mut round_constant = 1;
-    for at in 0..44 {
-        if at < 4 {
-            words[at].copy_from_slice(&key[4 * at..4 * at + 4]);
-            continue;
-        }
-        let mut word: [u8; 4] = words[at - 1];
-        if at % 4 == 0 {
+    for at in nk..4 * (nk + 7) {
+        let mut word = words[at - 1];
+        if at % nk == 0 {
             word.rotate_left(1);
-            word = word.map(|byte| boxes.forward[usize::from(byte)]);
+            word = substituted(word);
             word[0] ^= round_constant;
             round_constant = double(round_constant);
+        } else if nk > 6 && at % nk == 4 {
+            word = substituted(word);
         }
-        words[at] = std::array::from_fn(|byte| words[at - 4][byte] ^ word[byte]);
+        words.push(std::array::from_fn(|byte| words[at - nk][byte] ^ word[byte]));
     }
-    std::array::from_fn(|round| std::array::from_fn(|row| std::array::from_fn(|column| words[4 * round + column][row])))
+    let state = |columns: &[[u8; 4]]| std::array::from_fn(|row| std::array::from_fn(|column| columns[column][row]));
+    words.chunks(4).map(state).collect()
 }

@@ -1,4 +1,4 @@
-//! Cipher-State mode as its paper has it, over any cipher in two halves.
+//! Cipher-State mode as its paper has it, over any cipher in two halves. What a long key lends to the start mask is ticket P8's rule.
 
 use super::cipher::Cipher;
 
@@ -40,11 +40,10 @@ pub struct Step {
 }
 
 impl<C: Cipher> Mode<C> {
-    pub fn new(key: &[u8; 16], iv: &[u8; 16]) -> Self {
-        let cipher = C::new(key);
-        let key = u128::from_be_bytes(*key);
-        let mask = cipher.encrypt(u128::from_be_bytes(*iv) ^ key) ^ key;
-        Self { cipher, start_mask: if mask == 0 { key } else { mask } }
+    pub fn new(key: &[u8], iv: &[u8; 16]) -> Self {
+        let (cipher, lent) = (C::new(key), lent(key));
+        let mask = cipher.encrypt(u128::from_be_bytes(*iv) ^ lent) ^ lent;
+        Self { cipher, start_mask: if mask == 0 { lent } else { mask } }
     }
 
     /// From a block of plaintext: middletext and ciphertext.
@@ -95,11 +94,15 @@ impl<C: Cipher> Mode<C> {
     }
 }
 
-/// The one IV under which step 1 comes to zero, so that the key replaces the start mask: IV plus key encrypts to the key. The
-/// cipher run backwards finds it.
-pub fn iv_of_zero_mask<C: Cipher>(key: &[u8; 16]) -> [u8; 16] {
-    let number = u128::from_be_bytes(*key);
-    (C::new(key).decrypt(number) ^ number).to_be_bytes()
+/// What a key adds to blocks, and what replaces a start mask of zero: its first 16 bytes.
+pub fn lent(key: &[u8]) -> u128 {
+    number(&key[..16])
+}
+
+/// The one IV under which step 1 comes to zero, so that what the key lends replaces the start mask: IV plus that encrypts to that.
+/// The cipher run backwards finds it.
+pub fn iv_of_zero_mask<C: Cipher>(key: &[u8]) -> [u8; 16] {
+    (C::new(key).decrypt(lent(key)) ^ lent(key)).to_be_bytes()
 }
 
 /// 16 bytes as a number.

@@ -1,4 +1,4 @@
-//! AES-128 by the `openssl` program.
+//! AES-128 and AES-256 by the `openssl` program.
 
 use std::io::Write;
 use std::process::{Command, Stdio};
@@ -13,10 +13,11 @@ pub enum Way {
 }
 
 /// The program's answer, or nothing where there is no such program. The blocks fit into a pipe.
-pub fn openssl(way: Way, key: &[u8; 16], blocks: &[u8]) -> Option<Vec<u8>> {
+pub fn openssl(way: Way, key: &[u8], blocks: &[u8]) -> Option<Vec<u8>> {
     let direction = if way == Way::Encrypt { "-e" } else { "-d" };
+    let cipher = format!("-aes-{}-ecb", 8 * key.len());
     let mut child = Command::new("openssl")
-        .args(["enc", "-aes-128-ecb", "-nopad", direction, "-K", &hex::encode(key)])
+        .args(["enc", &cipher, "-nopad", direction, "-K", &hex::encode(key)])
         .stdin(Stdio::piped())
         .stdout(Stdio::piped())
         .spawn()

@@ -39,11 +39,14 @@ pub const WORDS_JOINED: Topic = topic("joining in 64-bit words", 25, 100_000);
 pub const WORDS_SEALED: Topic = topic("runs and tags in 64-bit words", 26, 10_000);
 pub const GROUPS: Topic = topic("every number of blocks", 27, 3_900);
 pub const GROUPS_DAMAGED: Topic = topic("every block damaged", 28, 6_200);
+pub const LAST_BYTES: Topic = topic("the last bytes of long keys", 29, 3_000);
+pub const WRONG_KEYS: Topic = topic("keys of wrong lengths", 30, 28_000);
+pub const EXTENDED_KEYS: Topic = topic("keys with another before them", 31, 6_000);
 
 /// How many cuts each of their two topics has.
 pub const CUTS: usize = 12_000;
 
-const ALL: [Topic; 28] = [
+const ALL: [Topic; 31] = [
     SEALING,
     SEALING_EDGES,
     OPENING,
@@ -72,6 +75,9 @@ const ALL: [Topic; 28] = [
     WORDS_SEALED,
     GROUPS,
     GROUPS_DAMAGED,
+    LAST_BYTES,
+    WRONG_KEYS,
+    EXTENDED_KEYS,
 ];
 
 /// Each topic's test sees that it made its number of calls.

@@ -56,6 +56,10 @@ fn rows(rows: &[(u8, bool)]) -> Result<(), u8> {
     }
 }
 
+fn is_no_key(key: &[u8]) -> bool {
+    !matches!(key.len(), 16 | 32)
+}
+
 /// A key and an IV as they were handed in, of any length.
 #[derive(Clone, Copy)]
 struct Under<'a> {
@@ -65,13 +69,13 @@ struct Under<'a> {
 
 impl Under<'_> {
     fn rows(self) -> [(u8, bool); 2] {
-        [(1, self.key.len() != 16), (2, self.iv.len() != 16)]
+        [(1, is_no_key(self.key)), (2, self.iv.len() != 16)]
     }
 
     /// The mode under them, or 10 where the start mask is still zero after its replacement. To be asked where row 10 stands, just
     /// before 5 and 6.
     fn mode<C: Cipher>(self) -> Result<Mode<C>, u8> {
-        let mode = Mode::new(self.key.try_into().expect("16 bytes"), self.iv.try_into().expect("16 bytes"));
+        let mode = Mode::new(self.key, self.iv.try_into().expect("16 bytes"));
         rows(&[(10, mode.start_mask == 0)])?;
         Ok(mode)
     }
@@ -121,7 +125,7 @@ fn seal<C: Cipher>(key: &[u8], iv: &[u8], message: &[u8], room: usize) -> Outcom
 }
 
 fn open<C: Cipher>(key: &[u8], sealed: &[u8], room: usize) -> Outcome {
-    rows(&[(1, key.len() != 16)])?;
+    rows(&[(1, is_no_key(key))])?;
     rows(&[(3, sealed.len() < 48 || sealed.len() > 64_032 || !sealed.len().is_multiple_of(16))])?;
     let (iv, rest) = sealed.split_at(16);
     let (ciphertext, tag) = rest.split_at(rest.len() - 16);

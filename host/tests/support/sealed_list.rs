@@ -8,7 +8,7 @@ use super::random::Random;
 
 /// A list, and what the mode makes of it under a pair that the calls take or refuse.
 pub struct SealedList {
-    pub key: [u8; 16],
+    pub key: Vec<u8>,
     pub iv: [u8; 16],
     pub message: Vec<u8>,
     pub sealed: Vec<u8>,

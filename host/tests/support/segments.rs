@@ -31,7 +31,7 @@ pub struct Unbroken {
 }
 
 pub struct Segments {
-    pub key: [u8; 16],
+    pub key: Vec<u8>,
     pub iv: [u8; 16],
     pub text: Text,
     pub unbroken: Unbroken,
@@ -40,7 +40,7 @@ pub struct Segments {
 
 impl Segments {
     /// A random cut, with no record yet.
-    pub fn new(key: [u8; 16], iv: [u8; 16], text: Text, random: &mut Random) -> Self {
+    pub fn new(key: Vec<u8>, iv: [u8; 16], text: Text, random: &mut Random) -> Self {
         let unbroken = Unbroken::new(&key, &iv, &text);
         let sealing = matches!(text, Text::Message(_));
         let list = cut(unbroken.middletexts.len(), sealing, random);
@@ -154,7 +154,7 @@ impl Segments {
 }
 
 impl Unbroken {
-    fn new(key: &[u8; 16], iv: &[u8; 16], text: &Text) -> Self {
+    fn new(key: &[u8], iv: &[u8; 16], text: &Text) -> Self {
         let mode = Mode::<Fips197>::new(key, iv);
         let ciphertext = match text {
             Text::Message(message) => mode.run(0, &padded(message), Mode::forward).0,

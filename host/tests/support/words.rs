@@ -89,10 +89,10 @@ pub struct WordMode<C> {
 }
 
 impl<C: Cipher> WordMode<C> {
-    pub fn new(key: &[u8; 16], iv: &[u8; 16]) -> Self {
-        let (cipher, key, iv) = (C::new(key), Words::read(key), Words::read(iv));
-        let mask = iv.plus(key).through(|block| cipher.encrypt(block)).plus(key);
-        let start_mask = if mask.upper | mask.lower == 0 { key } else { mask };
+    pub fn new(key: &[u8], iv: &[u8; 16]) -> Self {
+        let (cipher, lent, iv) = (C::new(key), Words::read(&key[..16]), Words::read(iv));
+        let mask = iv.plus(lent).through(|block| cipher.encrypt(block)).plus(lent);
+        let start_mask = if mask.upper | mask.lower == 0 { lent } else { mask };
         Self { cipher, start_mask }
     }
 

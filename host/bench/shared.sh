@@ -1,0 +1,30 @@
+# What the benchmarks' scripts share. They read it in, with `here` being this folder.
+# shellcheck shell=sh disable=SC2034,SC2154
+flags='-std=c99 -O3 -Wall -Wextra -Wpedantic -Werror'
+
+out=$(mktemp -d)
+trap 'rm -rf "$out"' EXIT
+
+# The script's first comment.
+usage() { sed -n '2,/^set/s/^# \{0,1\}//p' "$0"; }
+
+compile() { # OBJECT SOURCE FLAGS...
+    object=$1 source=$2
+    shift 2
+    # shellcheck disable=SC2086
+    gcc $flags "$@" -I"$here/../include" -c -o "$out/$object.o" "$here/$source.c"
+}
+
+# The archives of the folder BALZENOH_LIB_DIR; where that is not set they are proved and built with rt.
+find_archives() {
+    library='the archives in BALZENOH_LIB_DIR'
+    if [ -z "${BALZENOH_LIB_DIR:-}" ]; then
+        (cd "$here/../.." && rt staticlib balzenoh >/dev/null && rt staticlib aes_blocks >/dev/null)
+        BALZENOH_LIB_DIR=$here/../../target/staticlib
+        library=$(rt version)
+    fi
+    archives="$BALZENOH_LIB_DIR/libbalzenoh.a $BALZENOH_LIB_DIR/libaes_blocks.a"
+}
+
+print_machine() { echo "CPU       $(sed -n 's/^model name[^:]*: //p' /proc/cpuinfo | head -n 1), $(nproc) processors"; }
+print_compiler() { echo "Program   $(gcc --version | head -n 1), ${flags%% -W*}, around the archives' calls"; }
