@@ -28,7 +28,7 @@ fn print_line(label: &[u8], block: [u8; 16]) {
 }
 
 fn start_mask(key: [u8; 16], iv: [u8; 16]) -> Words {
-    let keys = cipher::expand(key);
+    let keys = cipher::expand(&key);
     tags::mask::start_mask(iv, &keys)
 }
 
