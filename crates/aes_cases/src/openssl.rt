@@ -1,45 +1,38 @@
-// Triples of key, block and result, a line of 99 bytes each: 32 hexadecimal digits three times, a space or the line's end after each.
-ghost use Prim.Native.Nat.{_+_, _≤_};
+// Triples of key, block and result, a line each: hexadecimal digits three times, a space or the line's end after each. The key has `size` bytes,
+// 16 or 32, so that a line has 67 and twice as many.
+ghost use Prim.Native.Nat.{_+_, _*_, _≤_};
 ghost use lib.ListN.{length};
-use crate::agree::decrypts;
-use crate::agree::encrypts;
-use crate::agree::halves_meet;
+use crate::agree::Agreed;
+use crate::agree::triple;
 use crate::hex::block_at;
-
-// How many triples agreed, by what was checked.
-pub struct Agreed {
-    pub encrypted: usize,
-    pub decrypted: usize,
-    pub met: usize,
-}
+use crate::hex::key_at;
 
 // One line, counted by what agrees.
-fn run_line(engine: u8, text: &[u8], at: usize) -> Agreed
-    requires { ⌜ at + 99 ≤ length (now text) ⌝ }
+fn run_line(engine: u8, text: &[u8], at: usize, size: usize) -> Agreed
+    requires { ⌜ size ≤ 32 ⌝ }
+    requires { ⌜ at + size * 2 + 67 ≤ length (now text) ⌝ }
     ensures { λ r. ⌜ (r .encrypted ≤ 1) × (r .decrypted ≤ 1) × (r .met ≤ 1) ⌝ }
 {
-    let key = block_at(text, at);
-    let plain = block_at(text, at + 33);
-    let cipher = block_at(text, at + 66);
-    Agreed {
-        encrypted: encrypts(engine, key, plain, cipher),
-        decrypted: decrypts(engine, key, plain, cipher),
-        met: halves_meet(engine, key, plain, cipher),
-    }
+    let key = key_at(text, at, size);
+    let plain = block_at(text, at + size * 2 + 1);
+    let cipher = block_at(text, at + size * 2 + 34);
+    triple(engine, &key[0..size], plain, cipher)
 }
 
-pub fn run(engine: u8, text: &[u8]) -> Agreed {
+pub fn run(engine: u8, text: &[u8], size: usize) -> Agreed
+    requires { ⌜ size ≤ 32 ⌝ }
+{
     let mut encrypted: usize = 0;
     let mut decrypted: usize = 0;
     let mut met: usize = 0;
-    let lines = text.len() / 99;
-    let mut i: usize = 0;
-    while i < lines {
-        let line = run_line(engine, text, i * 99);
-        encrypted += line.encrypted;
-        decrypted += line.decrypted;
-        met += line.met;
-        i += 1;
+    let line = size * 2 + 67;
+    let mut at: usize = 0;
+    while at + line <= text.len() {
+        let agreed = run_line(engine, text, at, size);
+        encrypted += agreed.encrypted;
+        decrypted += agreed.decrypted;
+        met += agreed.met;
+        at += line;
     }
     Agreed {
         encrypted,

@@ -1,20 +1,27 @@
 -- A turn reads one line, which lies within the text, and the count goes up by at most one.
 use borrow.Author.Needs.{needs}
 use Prim.Native.Nat.{_≤_, _-_}
+use lib.ListN.{length}
 use Rattle.aes_cases.proofs.both.run.Statement.{statement}
 use Rattle.aes_cases.proofs.both.run.Tie as tie
 
 abbrev Inv-loop : tie.InvT-loop
-Inv-loop text agreed₀ lines i₀ agreed i = (i ≤ lines) × (agreed ≤ i)
+Inv-loop text size agreed₀ line at₀ agreed at = (at ≤ length text) × (agreed ≤ at)
 
 abbrev μ-loop : tie.MeasureT-loop
-μ-loop text agreed₀ lines i₀ agreed i = lines - i
+μ-loop text size agreed₀ line at₀ agreed at = length text - at
+
+mul-line : tie.Need-mul-line Inv-loop μ-loop
+mul-line c = search needs
+
+add-line : tie.Need-add-line Inv-loop μ-loop
+add-line c = search needs
 
 loop-holds : tie.Need-loop-holds Inv-loop μ-loop
 loop-holds c = search needs
 
-mul-run-line : tie.Need-mul-run-line Inv-loop μ-loop
-mul-run-line c = search needs
+add-loop : tie.Need-add-loop Inv-loop μ-loop
+add-loop c = search needs
 
 run-line-requires : tie.Need-run-line-requires Inv-loop μ-loop
 run-line-requires c κs = search needs
@@ -22,8 +29,8 @@ run-line-requires c κs = search needs
 add-agreed : tie.Need-add-agreed Inv-loop μ-loop
 add-agreed c = search needs
 
-add-i : tie.Need-add-i Inv-loop μ-loop
-add-i c = search needs
+add-at : tie.Need-add-at Inv-loop μ-loop
+add-at c = search needs
 
 loop-less : tie.Need-loop-less Inv-loop μ-loop
 loop-less c = search needs
@@ -40,11 +47,13 @@ run-spec =
     (tie.spec
     Inv-loop
     μ-loop
+    mul-line
+    add-line
     loop-holds
-    mul-run-line
+    add-loop
     run-line-requires
     add-agreed
-    add-i
+    add-at
     loop-less
     loop-again
     returns)

@@ -1,20 +1,26 @@
 -- At most one word agrees at each turn.
 use borrow.Author.Needs.{needs}
+use mathlib.Core.Path.{sym, _∙_}
+use Rattle.fips197.proofs.Keys.{has-key}
 use Prim.Native.Nat.{_≤_, _-_}
-use Rattle.aes_cases.proofs.fips.key_expansion.Statement.{statement}
-use Rattle.aes_cases.proofs.fips.key_expansion.Tie as tie
+use lib.ListN.{length}
+use Rattle.aes_cases.proofs.fips.expands.Statement.{statement}
+use Rattle.aes_cases.proofs.fips.expands.Tie as tie
 
 abbrev Inv-loop : tie.InvT-loop
-Inv-loop engine words keys agreed₀ i₀ agreed i = (i ≤ 44) × (agreed ≤ i)
+Inv-loop engine key printed keys agreed₀ i₀ agreed i = (i ≤ length printed) × (agreed ≤ i)
 
 abbrev μ-loop : tie.MeasureT-loop
-μ-loop engine words keys agreed₀ i₀ agreed i = 44 - i
+μ-loop engine key printed keys agreed₀ i₀ agreed i = length printed - i
 
-block-requires : tie.Need-block-requires Inv-loop μ-loop
-block-requires c κs = search needs
+not-key-requires : tie.Need-not-key-requires Inv-loop μ-loop
+not-key-requires c κs = search needs
+
+returns : tie.Need-returns Inv-loop μ-loop
+returns c = search needs
 
 expand-requires : tie.Need-expand-requires Inv-loop μ-loop
-expand-requires c κs = search needs
+expand-requires c κs = has-key _ (sym (c .before .not-key .ensures) ∙ c .if1 .left)
 
 loop-holds : tie.Need-loop-holds Inv-loop μ-loop
 loop-holds c = search needs
@@ -25,8 +31,8 @@ word-requires c κs = search needs
 mul-one-if : tie.Need-mul-one-if Inv-loop μ-loop
 mul-one-if c = search needs
 
-element-copy-out-one-if : tie.Need-element-copy-out-one-if Inv-loop μ-loop
-element-copy-out-one-if c = search needs
+shared-slice-read-one-if : tie.Need-shared-slice-read-one-if Inv-loop μ-loop
+shared-slice-read-one-if c = search needs
 
 one-if-requires : tie.Need-one-if-requires Inv-loop μ-loop
 one-if-requires c κs = search needs
@@ -43,24 +49,25 @@ loop-less c = search needs
 loop-again : tie.Need-loop-again Inv-loop μ-loop
 loop-again c = search needs
 
-returns : tie.Need-returns Inv-loop μ-loop
-returns c = search needs
+returns-2 : tie.Need-returns-2 Inv-loop μ-loop
+returns-2 c = search needs
 
-pub key-expansion-spec : {M : Type 1} → statement M
-key-expansion-spec =
+pub expands-spec : {M : Type 1} → statement M
+expands-spec =
     tie.close
     (tie.spec
     Inv-loop
     μ-loop
-    block-requires
+    not-key-requires
+    returns
     expand-requires
     loop-holds
     word-requires
     mul-one-if
-    element-copy-out-one-if
+    shared-slice-read-one-if
     one-if-requires
     add-agreed
     add-i
     loop-less
     loop-again
-    returns)
+    returns-2)
