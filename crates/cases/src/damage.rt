@@ -76,9 +76,10 @@ fn test(key: [u8; 16], sealed: &[u8]) -> u8
 // The record as it is: sealed, opened and tested.
 pub fn undamaged() -> usize {
     let whole = sealed();
-    reference::seals(paper::key(), paper::iv(), b"twenty bytes of list", &whole)
-        + reference::opens(paper::key(), b"twenty bytes of list", &whole)
-        + one_if(test(paper::key(), &whole) == 0)
+    let key = paper::key();
+    reference::seals(&key, paper::iv(), b"twenty bytes of list", &whole)
+        + reference::opens(&key, b"twenty bytes of list", &whole)
+        + one_if(test(key, &whole) == 0)
 }
 
 fn fails_with(bit: usize) -> usize

@@ -1,5 +1,6 @@
 // The paper's vectors, reference records, cuts and damage, run against the proved library. Each line says how many cases of a group
 // agreed.
+ghost use Prim.Native.Nat.{_≤_};
 use case_tools::report;
 
 mod paper; // paper.rt: the vectors of the mode's paper
@@ -22,14 +23,28 @@ fn report_paper() {
     report(b"start mask of zero", paper::zero_start_mask(), 5);
 }
 
-fn report_reference(text: &[u8]) {
-    let agreed = reference::run(text);
+fn report_long_key() {
+    report(b"a key of 32 bytes", paper::long_key_vector(), 5);
+    report(
+        b"a key of 32 bytes, start mask of zero",
+        paper::long_key_zero_start_mask(),
+        5,
+    );
+}
+
+fn report_reference(text: &[u8], size: usize)
+    requires { ⌜ size ≤ 32 ⌝ }
+{
+    let agreed = reference::run(text, size);
     report(b"reference records, sealed", agreed.sealed, 128);
     report(b"reference records, opened", agreed.opened, 128);
     report(b"reference records, tested", agreed.tested, 128);
 }
 
-fn run_file(path: &[u8]) {
+// A file of records under keys of `size` bytes.
+fn run_file(path: &[u8], size: usize)
+    requires { ⌜ size ≤ 32 ⌝ }
+{
     let file = os::open_read(path);
     if file < 0 {
         os::fail(path);
@@ -38,7 +53,7 @@ fn run_file(path: &[u8]) {
     let mut buffer = io::large_buffer();
     let n = io::read_full(file, &mut buffer);
     libc::close(file);
-    report_reference(&buffer[..n]);
+    report_reference(&buffer[..n], size);
 }
 
 // ---- cuts, damage
@@ -60,7 +75,12 @@ fn report_damage() {
 
 fn main() {
     report_paper();
-    run_file(b"sealed.txt");
+    report_long_key();
+    io::write_all(1, b"keys of 16 bytes\n");
+    run_file(b"sealed.txt", 16);
+    io::write_all(1, b"keys of 32 bytes\n");
+    run_file(b"sealed256.txt", 32);
+    io::write_all(1, b"cuts and damage\n");
     report_cuts();
     report_damage();
 }

@@ -1,5 +1,5 @@
 // Records that a second program sealed (docs/CASES.md), a line each: key, IV, message and record in hexadecimal digits, a space or the
-// line's end after each. Line n has a message of n bytes.
+// line's end after each. The keys of a file have one length. Line n has a message of n bytes.
 ghost use Prim.Native.Nat.{_+_, _*_, _/_, _<_, _≤_};
 ghost use lib.ListN.{length};
 use case_tools::bytes::answered;
@@ -15,35 +15,35 @@ pub struct Agreed {
 }
 
 // Sealing the message gives the record.
-pub fn seals(key: [u8; 16], iv: [u8; 16], message: &[u8], sealed: &[u8]) -> usize
+pub fn seals(key: &[u8], iv: [u8; 16], message: &[u8], sealed: &[u8]) -> usize
     ensures { λ r. ⌜ r ≤ 1 ⌝ }
 {
     let mut out = [0u8; 256];
     case_tools::random::noise(&mut out);
-    let w = calls::seal::seal(&key, &iv, message, &mut out);
+    let w = calls::seal::seal(key, &iv, message, &mut out);
     one_if(answered(w, 0, sealed, &out))
 }
 
 // Opening the record gives the message.
-pub fn opens(key: [u8; 16], message: &[u8], sealed: &[u8]) -> usize
+pub fn opens(key: &[u8], message: &[u8], sealed: &[u8]) -> usize
     ensures { λ r. ⌜ r ≤ 1 ⌝ }
 {
     let mut out = [0u8; 256];
-    case_tools::open::answers(&key, sealed, &mut out, 0, message)
+    case_tools::open::answers(key, sealed, &mut out, 0, message)
 }
 
 // The record of the checked ciphertext passes the tag.
-fn tests(key: [u8; 16], iv: [u8; 16], sealed: &[u8]) -> usize
+fn tests(key: &[u8], iv: [u8; 16], sealed: &[u8]) -> usize
     requires { ⌜ 48 ≤ length (now sealed) ⌝ }
     ensures { λ r. ⌜ r ≤ 1 ⌝ }
 {
     let stop = sealed.len() - 16;
-    let checked = calls::run::check_run(&key, &iv, 0, &sealed[16..stop]);
-    let tested = tags::record::test(&key, &iv, checked.run, &sealed[stop..]);
+    let checked = calls::run::check_run(key, &iv, 0, &sealed[16..stop]);
+    let tested = tags::record::test(key, &iv, checked.run, &sealed[stop..]);
     one_if((checked.refusal == 0) & (tested == 0))
 }
 
-fn compared(key: [u8; 16], iv: [u8; 16], message: &[u8], sealed: &[u8]) -> Agreed
+fn compared(key: &[u8], iv: [u8; 16], message: &[u8], sealed: &[u8]) -> Agreed
     requires { ⌜ 48 ≤ length (now sealed) ⌝ }
     ensures { λ r. ⌜ (r .sealed ≤ 1) × (r .opened ≤ 1) × (r .tested ≤ 1) ⌝ }
 {
@@ -54,33 +54,39 @@ fn compared(key: [u8; 16], iv: [u8; 16], message: &[u8], sealed: &[u8]) -> Agree
     }
 }
 
-fn run_line(text: &[u8], at: usize, n: usize) -> Agreed
+fn run_line(text: &[u8], at: usize, size: usize, n: usize) -> Agreed
+    requires { ⌜ size ≤ 32 ⌝ }
     requires { ⌜ n < 128 ⌝ }
-    requires { ⌜ at + 164 + n * 2 + n / 16 * 32 ≤ length (now text) ⌝ }
+    requires { ⌜ at + size * 2 + 132 + n * 2 + n / 16 * 32 ≤ length (now text) ⌝ }
     ensures { λ r. ⌜ (r .sealed ≤ 1) × (r .opened ≤ 1) × (r .tested ≤ 1) ⌝ }
 {
-    let key = block_at(text, at);
-    let iv = block_at(text, at + 33);
+    let mut key = [0u8; 32];
+    bytes_at(text, at, size, &mut key);
+    let after = at + size * 2;
+    let iv = block_at(text, after + 1);
     let mut message = [0u8; 128];
-    bytes_at(text, at + 66, n, &mut message);
-    let size = n / 16 * 16 + 48;
+    bytes_at(text, after + 34, n, &mut message);
+    let long = n / 16 * 16 + 48;
     let mut sealed = [0u8; 160];
-    bytes_at(text, at + 67 + n * 2, size, &mut sealed);
-    compared(key, iv, &message[0..n], &sealed[0..size])
+    bytes_at(text, after + 35 + n * 2, long, &mut sealed);
+    compared(&key[0..size], iv, &message[0..n], &sealed[0..long])
 }
 
-pub fn run(text: &[u8]) -> Agreed {
+// The keys have `size` bytes.
+pub fn run(text: &[u8], size: usize) -> Agreed
+    requires { ⌜ size ≤ 32 ⌝ }
+{
     let mut sealed: usize = 0;
     let mut opened: usize = 0;
     let mut tested: usize = 0;
     let mut at: usize = 0;
     let mut n: usize = 0;
     while n < 128 {
-        let next = at + 164 + n * 2 + n / 16 * 32;
+        let next = at + size * 2 + 132 + n * 2 + n / 16 * 32;
         if text.len() < next {
             break;
         }
-        let line = run_line(text, at, n);
+        let line = run_line(text, at, size, n);
         sealed += line.sealed;
         opened += line.opened;
         tested += line.tested;

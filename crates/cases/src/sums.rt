@@ -13,7 +13,8 @@ use case_tools::paper::key;
 // Step 1: the IV plus the key, encrypted, plus the key.
 fn start_mask() -> [u8; 16] {
     let key = key();
-    let encrypted = case_tools::aes::encrypt(key, xor(iv(), key));
+    let sum = xor(iv(), key);
+    let encrypted = case_tools::aes::encrypt(&key, sum);
     xor(encrypted, key)
 }
 
@@ -22,7 +23,8 @@ fn sum_is(a: [u8; 16], b: [u8; 16], sum: [u8; 16], encrypted: [u8; 16]) -> usize
     ensures { λ r. ⌜ r ≤ 2 ⌝ }
 {
     let added = xor(a, b);
-    let given = case_tools::aes::encrypt(key(), added);
+    let key = key();
+    let given = case_tools::aes::encrypt(&key, added);
     one_if(equal(added, sum)) + one_if(equal(given, encrypted))
 }
 

@@ -6,19 +6,19 @@ use Rattle.cases.proofs.reference.run.Statement.{statement}
 use Rattle.cases.proofs.reference.run.Tie as tie
 
 abbrev Inv-loop : tie.InvT-loop
-Inv-loop text sealed₀ opened₀ tested₀ at₀ n₀ sealed opened tested at n = (n ≤ 128) × (at ≤ length text) × (sealed ≤ n) × (opened ≤ n) × (tested ≤ n)
+Inv-loop text size sealed₀ opened₀ tested₀ at₀ n₀ sealed opened tested at n = (n ≤ 128) × (at ≤ length text) × (sealed ≤ n) × (opened ≤ n) × (tested ≤ n)
 
 abbrev μ-loop : tie.MeasureT-loop
-μ-loop text sealed₀ opened₀ tested₀ at₀ n₀ sealed opened tested at n = 128 - n
+μ-loop text size sealed₀ opened₀ tested₀ at₀ n₀ sealed opened tested at n = 128 - n
 
 loop-holds : tie.Need-loop-holds Inv-loop μ-loop
 loop-holds c = search needs
 
-add-next : tie.Need-add-next Inv-loop μ-loop
-add-next c = search needs
-
 mul-next : tie.Need-mul-next Inv-loop μ-loop
 mul-next c = search needs
+
+add-next : tie.Need-add-next Inv-loop μ-loop
+add-next c = search needs
 
 add-next-2 : tie.Need-add-next-2 Inv-loop μ-loop
 add-next-2 c = search needs
@@ -28,6 +28,12 @@ mul-next-2 c = search needs
 
 add-next-3 : tie.Need-add-next-3 Inv-loop μ-loop
 add-next-3 c = search needs
+
+mul-next-3 : tie.Need-mul-next-3 Inv-loop μ-loop
+mul-next-3 c = search needs
+
+add-next-4 : tie.Need-add-next-4 Inv-loop μ-loop
+add-next-4 c = search needs
 
 run-line-requires : tie.Need-run-line-requires Inv-loop μ-loop
 run-line-requires c κs = search needs
@@ -63,11 +69,13 @@ run-spec =
     Inv-loop
     μ-loop
     loop-holds
-    add-next
     mul-next
+    add-next
     add-next-2
     mul-next-2
     add-next-3
+    mul-next-3
+    add-next-4
     run-line-requires
     add-sealed
     add-opened
