@@ -89,13 +89,7 @@ pub fn triple(engine: u8, key: &[u8], plain: [u8; 16], cipher: [u8; 16]) -> Agre
 }
 
 // The first half from the plaintext, and the second undone from the ciphertext, each come to a state.
-pub fn middles(
-    engine: u8,
-    key: &[u8],
-    plain: [u8; 16],
-    cipher: [u8; 16],
-    middle: [u8; 16],
-) -> usize
+pub fn middles(engine: u8, key: &[u8], plain: [u8; 16], cipher: [u8; 16], middle: [u8; 16]) -> usize
     ensures { λ r. ⌜ r ≤ 2 ⌝ }
 {
     if cipher::not_key(key) {

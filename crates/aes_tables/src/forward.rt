@@ -19,7 +19,13 @@ fn round(s: [u8; 16], keys: &[u8; crate::KEYS], n: usize, sbox: &[u8; 256]) -> [
 }
 
 // A round with each key from `from` up to, not including, `to`.
-fn rounds(s: [u8; 16], keys: &[u8; crate::KEYS], from: usize, to: usize, sbox: &[u8; 256]) -> [u8; 16]
+fn rounds(
+    s: [u8; 16],
+    keys: &[u8; crate::KEYS],
+    from: usize,
+    to: usize,
+    sbox: &[u8; 256],
+) -> [u8; 16]
     requires { ⌜ Schedule (now keys) ⌝ }
     requires { ⌜ from ≤ to ⌝ }
     requires { ⌜ to ≤ roundsIn (now keys) + 1 ⌝ }

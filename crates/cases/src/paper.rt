@@ -94,7 +94,8 @@ pub fn both_blocks() -> usize {
     let tag = block(b"9015A1139FA7EAF7F5AB5D96B9B76820");
     let all = &text[..];
     let key = key();
-    run_gives(&key, iv(), &all[0..32], &all[16..], record(0, 2, a2)) + tag_is(&key, iv(), record(0, 2, a2), tag)
+    run_gives(&key, iv(), &all[0..32], &all[16..], record(0, 2, a2))
+        + tag_is(&key, iv(), record(0, 2, a2), tag)
 }
 
 // An IV under which step 1 comes to zero: the start mask is the key. The values are those of vectors/make-mode-vectors.

@@ -15,8 +15,13 @@ mod padding; // padding.rt: lengths at the edges of the padding
 
 fn report_keys_and_ivs() {
     report(b"refusal 1, seal and open", table::key_of_messages(), 8);
-    report(b"refusal 1, runs", table::key_of_runs(), 6);
-    report(b"refusal 1, close and test", table::key_of_records(), 6);
+    report(
+        b"refusal 1, seal and open, 32 bytes",
+        table::long_key_of_messages(),
+        8,
+    );
+    report(b"refusal 1, runs", table::key_of_runs(), 10);
+    report(b"refusal 1, close and test", table::key_of_records(), 10);
     report(b"refusal 2", table::iv(), 10);
 }
 

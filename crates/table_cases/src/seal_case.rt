@@ -57,3 +57,12 @@ pub fn sealed(message: usize, room: usize, size: usize) -> usize
 {
     lends(16, 16, message, room, 0, size)
 }
+
+// The same under a key of 32 bytes.
+pub fn long_sealed(message: usize, room: usize, size: usize) -> usize
+    requires { ⌜ message ≤ 64000 ⌝ }
+    requires { ⌜ room ≤ 65536 ⌝ }
+    ensures { λ r. ⌜ r ≤ 1 ⌝ }
+{
+    lends(32, 16, message, room, 0, size)
+}

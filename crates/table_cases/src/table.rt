@@ -21,6 +21,18 @@ pub fn key_of_messages() -> usize {
         + open::refused(5, 0, false, 64, 1)
 }
 
+// A key of 32 bytes is taken, and opens no list that another key sealed.
+pub fn long_key_of_messages() -> usize {
+    seal::refused(24, 16, 5, 48, 1)
+        + seal::refused(31, 16, 5, 48, 1)
+        + seal::long_sealed(5, 48, 48)
+        + seal::refused(33, 16, 5, 48, 1)
+        + open::refused(5, 24, false, 64, 1)
+        + open::refused(5, 31, false, 64, 1)
+        + open::refused(5, 32, false, 64, 6)
+        + open::noise_refused(33, 64, 64, 1)
+}
+
 pub fn key_of_runs() -> usize {
     run::seal_refused(15, 16, 0, 32, 32, 1)
         + run::middle_sealed(0, 32, 32, 2)
@@ -28,6 +40,10 @@ pub fn key_of_runs() -> usize {
         + run::check_refused(15, 16, 0, 32, 1)
         + run::checked(0, 32, 2)
         + run::check_refused(17, 16, 0, 32, 1)
+        + run::seal_refused(24, 16, 0, 32, 32, 1)
+        + run::seal_refused(32, 16, 0, 32, 31, 5)
+        + run::check_refused(24, 16, 0, 32, 1)
+        + run::check_refused(32, 17, 0, 32, 2)
 }
 
 pub fn key_of_records() -> usize {
@@ -37,6 +53,10 @@ pub fn key_of_records() -> usize {
         + record::test_refused(15, 16, 0, 3, 16, 1)
         + record::passed(3)
         + record::test_refused(17, 16, 0, 3, 16, 1)
+        + record::close_refused(24, 16, 0, 3, 1)
+        + record::close_refused(32, 16, 0, 0, 9)
+        + record::test_refused(24, 16, 0, 3, 16, 1)
+        + record::test_refused(32, 16, 0, 3, 15, 3)
 }
 
 // ---- row 2, the IV

@@ -1,22 +1,45 @@
-// A key of zeros, and the one IV under which its start mask is zero.
+// Keys that start with 16 zeros, and for each the one IV under which its start mask is zero.
+ghost use Prim.Native.Nat.{_≤_};
 use case_tools::bytes::one_if;
 use case_tools::hex::block;
 
-// The zero block through the cipher run backwards.
-pub fn iv() -> [u8; 16] {
-    case_tools::aes::decrypt([0u8; 16], [0u8; 16])
+// A key of 32 bytes: 16 zeros, and 00 to 0F.
+pub fn half_zero() -> [u8; 32] {
+    let mut r = [0u8; 32];
+    blocks::block::store(&mut r, 16, case_tools::paper::key());
+    r
+}
+
+// The zero block through the cipher run backwards, under a key.
+pub fn iv_of(key: &[u8]) -> [u8; 16] {
+    case_tools::aes::decrypt(key, [0u8; 16])
 }
 
 // It is the one that vectors/make-mode-vectors prints, and the cipher takes it back to zero.
-pub fn found() -> usize {
-    let printed = block(b"140F0F1011B5223D79587717FFD9EC3A");
-    let back = case_tools::aes::encrypt([0u8; 16], iv());
-    one_if(blocks::block::equal(iv(), printed)) + one_if(blocks::block::equal(back, [0u8; 16]))
+fn is_found(key: &[u8], printed: [u8; 16]) -> usize
+    ensures { λ r. ⌜ r ≤ 2 ⌝ }
+{
+    let iv = iv_of(key);
+    let back = case_tools::aes::encrypt(key, iv);
+    one_if(blocks::block::equal(iv, printed)) + one_if(blocks::block::equal(back, [0u8; 16]))
 }
 
-// The IV in front of zeros, to be cut to any length up to 32.
-pub fn ivs() -> [u8; 32] {
+pub fn found() -> usize {
+    let zeros = [0u8; 32];
+    let half = half_zero();
+    is_found(&zeros[0..16], block(b"140F0F1011B5223D79587717FFD9EC3A"))
+        + is_found(&zeros, block(b"67671CE1FA91DDEB0F8FBBB366B531B4"))
+        + is_found(&half, block(b"2F2F1823901D914B8ABD3A4A09B20EB2"))
+}
+
+// The IV of the zero key of this length, in front of zeros, to be cut to any length up to 32. Where no key has this length, that of 16 bytes.
+pub fn ivs(key: usize) -> [u8; 32] {
+    let zeros = [0u8; 32];
     let mut r = [0u8; 32];
-    blocks::block::store(&mut r, 0, iv());
+    if key == 32 {
+        blocks::block::store(&mut r, 0, iv_of(&zeros));
+    } else {
+        blocks::block::store(&mut r, 0, iv_of(&zeros[0..16]));
+    }
     r
 }

@@ -17,16 +17,21 @@ pub fn close_refused(key: usize, iv: usize, first: u32, count: u32, refusal: u8)
     ensures { λ r. ⌜ r ≤ 1 ⌝ }
 {
     let keys = [0u8; 32];
-    let ivs = pair::ivs();
+    let ivs = pair::ivs(key);
     let a = tags::record::close(&keys[0..key], &ivs[0..iv], made(first, count));
     let tag = a.tag;
     one_if((a.refusal == refusal) & blocks::block::equal(tag, [0u8; 16]))
 }
 
-// The tag that step 3 gives of such a record under the pair, whatever its count, as vectors/make-mode-vectors prints it, in front of zeros.
-fn tags() -> [u8; 32] {
+// The tag that step 3 gives of such a record under the pair of a zero key of this length, whatever its count, as vectors/make-mode-vectors prints
+// it, in front of zeros.
+fn tags(key: usize) -> [u8; 32] {
     let mut r = [0u8; 32];
-    blocks::block::store(&mut r, 0, block(b"3CF74E683DD8E669829B288C0AD49E86"));
+    if key == 32 {
+        blocks::block::store(&mut r, 0, block(b"66468655274046982CEBA254DB633ABF"));
+    } else {
+        blocks::block::store(&mut r, 0, block(b"3CF74E683DD8E669829B288C0AD49E86"));
+    }
     r
 }
 
@@ -46,8 +51,8 @@ pub fn test_refused(
     ensures { λ r. ⌜ r ≤ 1 ⌝ }
 {
     let keys = [0u8; 32];
-    let ivs = pair::ivs();
-    let mut all = tags();
+    let ivs = pair::ivs(key);
+    let mut all = tags(key);
     flip(&mut all, 15, changed);
     let answer = tags::record::test(&keys[0..key], &ivs[0..iv], made(first, count), &all[0..tag]);
     one_if(answer == refusal)

@@ -42,7 +42,7 @@ pub fn seal_refused(
     ensures { λ r. ⌜ r ≤ 1 ⌝ }
 {
     let keys = [0u8; 32];
-    let ivs = pair::ivs();
+    let ivs = pair::ivs(key);
     let bytes = [9u8; 64];
     let mut out = [0u8; 64];
     seal_answers(
@@ -63,7 +63,7 @@ pub fn check_refused(key: usize, iv: usize, first: u32, text: usize, refusal: u8
     ensures { λ r. ⌜ r ≤ 1 ⌝ }
 {
     let keys = [0u8; 32];
-    let ivs = pair::ivs();
+    let ivs = pair::ivs(key);
     let bytes = [9u8; 64];
     one_if(refuses(
         calls::run::check_run(&keys[0..key], &ivs[0..iv], first, &bytes[0..text]),

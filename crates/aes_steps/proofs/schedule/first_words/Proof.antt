@@ -50,11 +50,11 @@ loop-less c = search needs
 
 loop-again : tie.Need-loop-again Inv-loop μ-loop
 loop-again c = (
-      search needs,
-      let l = c .before .before in
+  search needs,
+  let l = c .before .before in
       let s = l .before in
       built-more (l .loop .i) (s .args .key .now) (blank (s .args .key .now)) (omega arith) (omega (arith, at-most (s .args .key .now) (s .pre))) (l .loop .inv .1) refl,
-    )
+)
 
 returns : tie.Need-returns Inv-loop μ-loop
 unfolding built

@@ -5,13 +5,22 @@ use Rattle.zero_mask_cases.proofs.others.other_ivs.Statement.{statement
 use Rattle.zero_mask_cases.proofs.others.other_ivs.Tie as tie
 
 abbrev Inv-loop : tie.InvT-loop
-Inv-loop iv agreed₀ i₀ agreed i = (i ≤ 128) × (agreed ≤ i)
+Inv-loop key iv agreed₀ i₀ agreed i = (i ≤ 128) × (agreed ≤ i)
 
 abbrev μ-loop : tie.MeasureT-loop
-μ-loop iv agreed₀ i₀ agreed i = 128 - i
+μ-loop key iv agreed₀ i₀ agreed i = 128 - i
 
-iv-requires : tie.Need-iv-requires Inv-loop μ-loop
-iv-requires c κs = search needs
+sub-iv-of : tie.Need-sub-iv-of Inv-loop μ-loop
+sub-iv-of c = search needs
+
+part-iv-of-start : tie.Need-part-iv-of-start Inv-loop μ-loop
+part-iv-of-start c = search needs
+
+part-iv-of-end : tie.Need-part-iv-of-end Inv-loop μ-loop
+part-iv-of-end c = search needs
+
+iv-of-requires : tie.Need-iv-of-requires Inv-loop μ-loop
+iv-of-requires c κs = search needs
 
 loop-holds : tie.Need-loop-holds Inv-loop μ-loop
 loop-holds c = search needs
@@ -52,7 +61,10 @@ other-ivs-spec =
     (tie.spec
     Inv-loop
     μ-loop
-    iv-requires
+    sub-iv-of
+    part-iv-of-start
+    part-iv-of-end
+    iv-of-requires
     loop-holds
     array-read-other
     cast-other
