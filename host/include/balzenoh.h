@@ -79,18 +79,18 @@
  *  - Its size, and the stack that each call was seen to use, from its caller's frame down, as
  *    host/stack/run printed them, in bytes:
  *
- *      code      15913
+ *      code      16513
  *      constants  1152
  *      variables     0
  *
- *      seal       3024
- *      open       3119
- *      seal_run   3072
- *      check_run  3055
+ *      seal       3120
+ *      open       3231
+ *      seal_run   3168
+ *      check_run  3135
  *      join        388
  *      join_list   452
- *      close      1488
- *      test       1488
+ *      close      2480
+ *      test       2464
  *      jump        244
  *
  *    No function recurses. No proof bounds the stack.
