@@ -106,7 +106,7 @@ unfolding roundKeys keyExpansion
 blocks-roundKeys nk nr key l e h =
     blocks-of (nr + 1) (words nk key (4 * (nr + 1) - nk)) (omega (arith, length-words nk key (4 * (nr + 1) - nk) e)) (bytes-words nk key (4 * (nr + 1) - nk) h)
 
--- ---- the ten round constants of AES-128
+-- ---- the ten round constants
 abbrev pub roundConstants : List ℕ
 roundConstants = 1 ∷ 2 ∷ 4 ∷ 8 ∷ 16 ∷ 32 ∷ 64 ∷ 128 ∷ 27 ∷ 54 ∷ []
 
