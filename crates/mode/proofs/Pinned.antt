@@ -10,17 +10,19 @@ use Prim.Native.Nat.{ℕ, suc, _+_, _*_, _-_, _%_, _≤_, _<_}
 use lib.IntN.{ℤ, pos, negsuc, negℤ, negℤ-negℤ}
 use lib.ListN.{length, drop, length-append}
 use native.Mathlib.Omega.{arith}
-use Rattle.blocks.specs.Bytes.{Bytes, Block, zeros, same, firstBlocks, concat}
+use Rattle.blocks.specs.Bytes.{Bytes, Block, zeros, xorBytes, same, firstBlocks, concat}
 use Rattle.blocks.specs.declared.words.Words.{Words}
 use Rattle.blocks.specs.Words.{Proper, bytesOf, wordsOf}
 use Rattle.blocks.proofs.Chunks.{bytes-take, bytes-drop, bytes-append}
 use Rattle.blocks.proofs.Sign.{abs-neg}
+use Rattle.fips197.specs.KeyExpansion.{roundKeys}
+use Rattle.fips197.specs.Cipher.{cipher, invCipher, afterRound}
 use Rattle.fips197.specs.Aes.{KeyLength, short, long, Key}
-use Rattle.mode.specs.Mode.{Cipher, plaintext, ciphertext, RunRecord, inWords, ByteRecord, inBytes, zeroBlock, keyBlock, encrypt, blocksOf, ivPart, cipherPart, tagPart, sealedRecord, unbrokenTag, UnbrokenCheck}
+use Rattle.mode.specs.Mode.{Cipher, plaintext, ciphertext, RunRecord, inWords, ByteRecord, inBytes, zeroBlock, keyBlock, encrypt, startMask, blocksOf, ivPart, cipherPart, tagPart, sealedRecord, unbrokenTag, UnbrokenCheck}
 use Rattle.mode.specs.Table.{Answer, refused, given, decide, tableOrder, inOrder, notKey, not16, unaligned, tooLong, notSealed, beyond, tooFar, apart, notWhole, zeroMask, tooShort, limit, longestMessage}
 use Rattle.mode.specs.Calls.{Outcome, Kind, middle, last, outcomeBy, blocksOfRun, unalignedRun, seal, openSealed, openRows, unpadded, notPadded, orEmpty, plaintextOf, passFrom, runRecord, sealRun, checkRun, joinTwo, closingTag, close, test, Calls, callsOf}
 use Rattle.mode.specs.Parallel.{sealing, checking, ivOf, lastKind, textOf, Fits, Cut, Setting, WellFormed, Segment, isRecorded, segment, Call, runAt, joinPair, joinMany, consecutive, AllRecorded, recordsAt, Allowed, start, roomOf, runOutcome, afterAll, EachCall}
-use Rattle.mode.specs.Demands.{Gives, Refuses, InTable, NonzeroMask, Demand2a, Demand2d, Agrees, Demand3, ZeroMask, zeroMaskIv, without, AsBefore, Formed, inForm, mapAnswer, WordsAsBytes, RunRefused, ZeroMaskRack, JumpsTo, SignedJump}
+use Rattle.mode.specs.Demands.{IsAes, Aes128And256, KeyInStepOne, Gives, Refuses, InTable, NonzeroMask, Demand2a, Demand2d, Agrees, Demand3, ZeroMask, zeroMaskIv, without, AsBefore, Formed, inForm, mapAnswer, WordsAsBytes, RunRefused, ZeroMaskRack, JumpsTo, SignedJump}
 use Rattle.fips197.proofs.Keys.{is-key, isnt-key, has-key}
 use Rattle.mode.proofs.Keys.{keyBlock-short, keyBlock-first}
 use Rattle.mode.proofs.Rows.{is-whole}
@@ -260,6 +262,36 @@ module _ (c : Cipher) (b : AsBefore c) (key iv : List ℕ) where
       tt
   unfolding without
   test-before r tag z = b .of-test key iv r tag z
+
+-- ---- the cipher, and what a key lends to step 1
+
+-- all that is said of the cipher under a key, for a block
+abbrev IsFips197 : Cipher → List ℕ → ℕ → ℕ → ℕ → List ℕ → Type 0
+IsFips197 c key nk nr h block =
+    (encrypt c key block ≡ cipher nr (roundKeys nk nr key) block)
+    × (c .secondHalf key (c .firstHalf key block) ≡ cipher nr (roundKeys nk nr key) block)
+    × (c .firstHalfBack key (c .secondHalfBack key block) ≡ invCipher nr (roundKeys nk nr key) block)
+    × (c .firstHalf key block ≡ afterRound (roundKeys nk nr key) block h)
+
+fields : (c : Cipher) (key : List ℕ) (nk nr h : ℕ) → IsAes c key nk nr h → (block : List ℕ) → IsFips197 c key nk nr h block
+fields c key nk nr h a block = (a .encrypts block, a .halves block, a .decrypts block, a .middle block)
+
+pub aes-128 : (c : Cipher) → Aes128And256 c → (key block : List ℕ) → length key ≡ 16 → IsFips197 c key 4 10 5 block
+aes-128 c a key block e = fields c key 4 10 5 (a .of-16 key e) block
+
+pub aes-256 : (c : Cipher) → Aes128And256 c → (key block : List ℕ) → length key ≡ 32 → IsFips197 c key 8 14 7 block
+aes-256 c a key block e = fields c key 8 14 7 (a .of-32 key e) block
+
+-- a key of 16 bytes as it is, and one of 32 by its first 16, whatever the others are
+pub lends-itself : (c : Cipher) → KeyInStepOne c → (key iv : List ℕ) → length key ≡ 16
+    → let sum = xorBytes (encrypt c key (xorBytes iv key)) key in
+    startMask c key iv ≡ cond (same sum zeroBlock) key sum
+lends-itself c k key iv e = k .of-16 key iv e
+
+pub lends-first : (c : Cipher) → KeyInStepOne c → (a b iv : List ℕ) → length a ≡ 16 → length b ≡ 16
+    → let sum = xorBytes (encrypt c (a ++ b) (xorBytes iv a)) a in
+    startMask c (a ++ b) iv ≡ cond (same sum zeroBlock) a sum
+lends-first c k a b iv ha hb = k .of-32 a b iv ha hb
 
 -- ---- row 1
 
