@@ -13,7 +13,7 @@ use Rattle.mode.specs.declared.RecordAnswer.{RecordAnswer}
 use Rattle.mode.specs.declared.TagAnswer.{TagAnswer}
 use Rattle.mode.specs.Aes.{aes}
 use Rattle.mode.specs.Table.{Answer, refused, given, decide}
-use Rattle.mode.specs.Calls.{outcomeBy, Kind, seal, sealRows, openSealed, openRows, sealRun, sealRunRows, blocksOfRun, passFrom, runRecord, checkRun, checkRunRows, joinTwo, joinTwoRows, joinList, joinListRows, close, closeRows, test, testRows, jumpMask, jumpRows, number, runAnswerOf, recordAnswerOf, tagAnswerOf}
+use Rattle.mode.specs.Calls.{outcomeBy, Kind, seal, sealRows, openSealed, openRows, sealRun, sealRunRows, blocksOfRun, passFrom, runRecord, checkRun, checkRunRows, joinTwo, joinTwoRows, joinList, joinListRows, close, closeRows, test, testRows, jumpMask, jumpRows, sha1Text, sha1Rows, number, runAnswerOf, recordAnswerOf, tagAnswerOf}
 use Rattle.calls.specs.Layout.{kindOf}
 use Rattle.balzenoh.specs.Encoding.{decoded, recordsOf}
 use Rattle.balzenoh.specs.Exports.{lentRows, lent, lentRecord, recordPart, sealRunBytes, notRecord, notRecords, joinBytes, joinListBytes, closeBytes, testBytes}
@@ -140,11 +140,11 @@ abbrev refusalOfTag : TagAnswer → ℕ
 refusalOfTag a = a .refusal
 
 pub promises : Promises
-unfolding seal openSealed openRows checkRun joinTwo joinList close test jumpMask joinBytes joinListBytes closeBytes testBytes recordAnswerOf tagAnswerOf number
+unfolding seal openSealed openRows checkRun joinTwo joinList close test jumpMask sha1Text joinBytes joinListBytes closeBytes testBytes recordAnswerOf tagAnswerOf number
 promises =
     record {
-      of-seal = λ key iv message room. promised _ _ _ room (by-rows _ (sealRows aes key iv message room) _ tt);
-      of-open = λ key sealed room. promised _ _ _ room (by-rows _ (openRows aes key sealed room) _ tt);
+      of-seal = λ t key iv message room. promised _ _ _ room (by-rows _ (sealRows t aes key iv message room) _ tt);
+      of-open = λ t key sealed room. promised _ _ _ room (by-rows _ (openRows t aes key sealed room) _ tt);
       of-seal-run = run-promised;
       of-check-run = λ key iv first bytes room. lent-promised _ _ 24 _ room (by-rows _ (checkRunRows aes key iv first bytes) _ tt) tt tt;
       of-join =
@@ -152,8 +152,9 @@ promises =
       of-join-list =
           λ b room. lent-promised _ _ 24 _ room (by-cases _ refusalOf (notRecords b) _ _ (tested _ 24 tt) (by-rows _ (joinListRows inWords (recordsOf b)) _ tt)) tt tt;
       of-close =
-          λ key iv r room. lent-promised _ _ 16 _ room (by-cases _ refusalOfTag (notRecord r) _ _ (tested _ 24 tt) (by-rows _ (closeRows inWords aes key iv (decoded r)) _ tt)) tt tt;
+          λ t key iv r room. lent-promised _ _ (t .tagLength) _ room (by-cases _ refusalOfTag (notRecord r) _ _ (tested _ 24 tt) (by-rows _ (closeRows inWords aes key iv (decoded r)) _ tt)) tt tt;
       of-test =
-          λ key iv r tag. by-cases _ (λ (n : ℕ). n) (notRecord r) _ _ (tested _ 24 tt) (by-rows _ (testRows inWords aes key iv (decoded r) tag) _ tt);
+          λ t key iv r tag. by-cases _ (λ (n : ℕ). n) (notRecord r) _ _ (tested _ 24 tt) (by-rows _ (testRows inWords t aes key iv (decoded r) tag) _ tt);
       of-jump = λ mask distance room. promised _ _ _ room (by-rows _ (jumpRows mask distance room) _ tt);
+      of-sha1 = λ text room. promised _ _ _ room (by-rows _ (sha1Rows text room) _ tt);
     }

@@ -4,12 +4,12 @@ use mathlib.Core.Bool.{Bool, cond, not, _||_}
 use mathlib.Core.List.{List, [], _∷_}
 use Prim.Native.Nat.{ℕ, _%_}
 use lib.Dec.{eqb}
-use lib.ListN.{length}
+use lib.ListN.{length, take}
 use Rattle.blocks.specs.Bytes.{zeros}
 use Rattle.mode.specs.declared.RunAnswer.{RunAnswer}
 use Rattle.mode.specs.declared.RecordAnswer.{RecordAnswer}
 use Rattle.mode.specs.declared.TagAnswer.{TagAnswer}
-use Rattle.mode.specs.Mode.{zeroBlock, inWords}
+use Rattle.mode.specs.Mode.{Finish, inWords}
 use Rattle.mode.specs.Aes.{aes}
 use Rattle.mode.specs.Table.{decide, tooShort}
 use Rattle.mode.specs.Calls.{Outcome, outcomeBy, sealRun, checkRun, joinTwo, joinList, close, test, number, runAnswerOf, recordAnswerOf, refusedRecord, tagAnswerOf}
@@ -40,8 +40,9 @@ lent refusal needed bytes room = outcomeBy (decide (lentRows refusal room needed
 abbrev pub lentRecord : RecordAnswer → ℕ → Outcome (List ℕ)
 lentRecord a room = lent (a .refusal) 24 (encoded (a .run)) room
 
-abbrev pub lentTag : TagAnswer → ℕ → Outcome (List ℕ)
-lentTag a room = lent (a .refusal) 16 (a .tag) room
+-- a tag without the zeros that it is held with
+abbrev pub lentTag : Finish → TagAnswer → ℕ → Outcome (List ℕ)
+lentTag t a room = lent (a .refusal) (t .tagLength) (take (t .tagLength) (a .tag)) room
 
 -- ---- a record that is handed in
 
@@ -61,12 +62,12 @@ unfoldable pub joinListBytes : List ℕ → RecordAnswer
 joinListBytes b = cond (notRecords b) (refusedRecord 24) (recordAnswerOf (joinList inWords (recordsOf b)))
 
 -- CLOSE
-unfoldable pub closeBytes : List ℕ → List ℕ → List ℕ → TagAnswer
-closeBytes key iv r = cond (notRecord r) (record { refusal = 24; tag = zeroBlock }) (tagAnswerOf (close inWords aes key iv (decoded r)))
+unfoldable pub closeBytes : Finish → List ℕ → List ℕ → List ℕ → TagAnswer
+closeBytes t key iv r = cond (notRecord r) (record { refusal = 24; tag = zeros 20 }) (tagAnswerOf (close inWords t aes key iv (decoded r)))
 
 -- TEST
-unfoldable pub testBytes : List ℕ → List ℕ → List ℕ → List ℕ → ℕ
-testBytes key iv r tag = cond (notRecord r) 24 (number (test inWords aes key iv (decoded r) tag))
+unfoldable pub testBytes : Finish → List ℕ → List ℕ → List ℕ → List ℕ → ℕ
+testBytes t key iv r tag = cond (notRecord r) 24 (number (test inWords t aes key iv (decoded r) tag))
 
 -- ---- SEAL A RUN
 

@@ -6,8 +6,9 @@ use mathlib.Core.List.{List, [], _∷_}
 use Prim.Native.Nat.{ℕ}
 use lib.IntN.{ℤ}
 use Rattle.blocks.specs.Bytes.{zeros}
+use Rattle.mode.specs.Mode.{Finish}
 use Rattle.mode.specs.Aes.{aes}
-use Rattle.mode.specs.Calls.{Outcome, seal, openSealed, jumpMask, number}
+use Rattle.mode.specs.Calls.{Outcome, seal, openSealed, jumpMask, sha1Text, number}
 use Rattle.balzenoh.specs.Exports.{lentRecord, lentTag, RunOutcome, sealRunBytes, checkRunBytes, joinBytes, joinListBytes, closeBytes, testBytes}
 
 -- n is one of these
@@ -27,14 +28,15 @@ pub record PromisedRun (numbers : List ℕ) (o : RunOutcome) (size room : ℕ) :
 
 -- 24 comes only from the four functions that take a record; every other number is the table's
 pub record Promises : Type 0 where
-  pub of-seal : (key iv message : List ℕ) (room : ℕ) → Promised (0 ∷ 1 ∷ 2 ∷ 3 ∷ 10 ∷ 5 ∷ []) (seal aes key iv message room) room
-  pub of-open : (key sealed : List ℕ) (room : ℕ) → Promised (0 ∷ 1 ∷ 3 ∷ 10 ∷ 5 ∷ 6 ∷ 7 ∷ []) (openSealed aes key sealed room) room
+  pub of-seal : (t : Finish) (key iv message : List ℕ) (room : ℕ) → Promised (0 ∷ 1 ∷ 2 ∷ 3 ∷ 10 ∷ 5 ∷ []) (seal t aes key iv message room) room
+  pub of-open : (t : Finish) (key sealed : List ℕ) (room : ℕ) → Promised (0 ∷ 1 ∷ 3 ∷ 10 ∷ 5 ∷ 6 ∷ 7 ∷ []) (openSealed t aes key sealed room) room
   pub of-seal-run : (key iv : List ℕ) (first last : ℕ) (bytes : List ℕ) (size room : ℕ)
       → PromisedRun (0 ∷ 1 ∷ 2 ∷ 3 ∷ 4 ∷ 10 ∷ 5 ∷ []) (sealRunBytes key iv first last bytes size room) size room
   pub of-check-run : (key iv : List ℕ) (first : ℕ) (bytes : List ℕ) (room : ℕ)
       → Promised (0 ∷ 1 ∷ 2 ∷ 3 ∷ 4 ∷ 10 ∷ 5 ∷ []) (lentRecord (checkRunBytes key iv first bytes) room) room
   pub of-join : (left right : List ℕ) (room : ℕ) → Promised (0 ∷ 24 ∷ 4 ∷ 8 ∷ 5 ∷ []) (lentRecord (joinBytes left right) room) room
   pub of-join-list : (records : List ℕ) (room : ℕ) → Promised (0 ∷ 24 ∷ 4 ∷ 8 ∷ 9 ∷ 5 ∷ []) (lentRecord (joinListBytes records) room) room
-  pub of-close : (key iv run : List ℕ) (room : ℕ) → Promised (0 ∷ 24 ∷ 1 ∷ 2 ∷ 4 ∷ 9 ∷ 10 ∷ 5 ∷ []) (lentTag (closeBytes key iv run) room) room
-  pub of-test : (key iv run tag : List ℕ) → OneOf (0 ∷ 24 ∷ 1 ∷ 2 ∷ 3 ∷ 4 ∷ 9 ∷ 10 ∷ 6 ∷ []) (testBytes key iv run tag)
+  pub of-close : (t : Finish) (key iv run : List ℕ) (room : ℕ) → Promised (0 ∷ 24 ∷ 1 ∷ 2 ∷ 4 ∷ 9 ∷ 10 ∷ 5 ∷ []) (lentTag t (closeBytes t key iv run) room) room
+  pub of-test : (t : Finish) (key iv run tag : List ℕ) → OneOf (0 ∷ 24 ∷ 1 ∷ 2 ∷ 3 ∷ 4 ∷ 9 ∷ 10 ∷ 6 ∷ []) (testBytes t key iv run tag)
   pub of-jump : (mask : List ℕ) (distance : ℤ) (room : ℕ) → Promised (0 ∷ 3 ∷ 4 ∷ 5 ∷ []) (jumpMask mask distance room) room
+  pub of-sha1 : (text : List ℕ) (room : ℕ) → Promised (0 ∷ 3 ∷ 5 ∷ []) (sha1Text text room) room

@@ -24,13 +24,13 @@ pub zeros-append : (m n : ℕ) → zeros m ++ zeros n ≡ zeros (m + n)
 zeros-append zero n = ap zeros (let e : n ≡ 0 + n = omega arith in e)
 zeros-append (suc m) n = ap (λ (t : List ℕ). 0 ∷ t) (zeros-append m n) ∙ ap zeros (let e : suc (m + n) ≡ suc m + n = omega arith in e)
 
--- a block stored after a front of n bytes, in front of zeros
-pub stored-after : (front old new b : List ℕ) (n left : ℕ) → length front ≡ n → old ≡ front ++ zeros left → new ≡ take n old ++ b ++ drop (n + 16) old
-    → new ≡ front ++ b ++ zeros (left - 16)
-stored-after front old new b n left l eo en =
-    en ∙ ap (λ (z : List ℕ). take n z ++ b ++ drop (n + 16) z) eo
+-- k bytes stored after a front of n bytes, in front of zeros
+pub stored-after : (k : ℕ) (front old new b : List ℕ) (n left : ℕ) → length front ≡ n → old ≡ front ++ zeros left → new ≡ take n old ++ b ++ drop (n + k) old
+    → new ≡ front ++ b ++ zeros (left - k)
+stored-after k front old new b n left l eo en =
+    en ∙ ap (λ (z : List ℕ). take n z ++ b ++ drop (n + k) z) eo
     ∙ ap₂ (λ (x y : List ℕ). x ++ b ++ y) (take-at front (zeros left) n l)
-    (ap (λ (k : ℕ). drop (k + 16) (front ++ zeros left)) (sym l) ∙ drop-append-add front (zeros left) 16 ∙ drop-zeros 16 left)
+    (ap (λ (j : ℕ). drop (j + k) (front ++ zeros left)) (sym l) ∙ drop-append-add front (zeros left) k ∙ drop-zeros k left)
 
-pub stored-front : (old new b : List ℕ) (room : ℕ) → old ≡ zeros room → new ≡ take 0 old ++ b ++ drop (0 + 16) old → new ≡ b ++ zeros (room - 16)
-stored-front old new b room = stored-after [] old new b 0 room refl
+pub stored-front : (k : ℕ) (old new b : List ℕ) (room : ℕ) → old ≡ zeros room → new ≡ take 0 old ++ b ++ drop (0 + k) old → new ≡ b ++ zeros (room - k)
+stored-front k old new b room = stored-after k [] old new b 0 room refl

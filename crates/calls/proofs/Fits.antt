@@ -7,14 +7,17 @@ use native.Mathlib.Omega.{arith}
 use lib.Dec.{eqb}
 use lib.ListN.{length}
 use borrow.Author.Tests.{eqb-true, ltb-false, not-false}
-use Rattle.mode.specs.Mode.{sealedRecord}
+use Rattle.mode.specs.Mode.{finishNamed, sealedRecord}
+use Rattle.mode.specs.declared.finish.Finish.{Finish as Named}
 use Rattle.mode.specs.Aes.{aes}
 use Rattle.mode.specs.Table.{firstRow, limit, unaligned}
 use Rattle.mode.specs.Calls.{sealRunRows, sealRows, blocksOfRun, unalignedRun}
 use Rattle.mode.proofs.Aes.{aes-lawful}
+use Rattle.mode.proofs.Finishes.{both}
 use Rattle.mode.proofs.Passed.{head-passed, tail-passed, key-passed, iv-16, run-within}
 use Rattle.mode.proofs.SealedLength.{sealed-length}
 use Rattle.calls.specs.Layout.{kindOf, laidOutLength}
+use Rattle.calls.specs.Work.{sealedLength}
 use Rattle.calls.proofs.LaidOut.{count-laidOut}
 
 pub run-aligned : (l : Bool) (bytes : List ℕ) → unalignedRun (kindOf l) bytes ≡ false → laidOutLength l (length bytes) % 16 ≡ 0
@@ -32,7 +35,9 @@ run-fits key iv first l bytes room e =
     let w : first + length (blocksOfRun (kindOf l) bytes) ≤ limit = run-within key iv _ first _ _ e in
     (omega (arith, f, k, a), (a, omega (arith, w, k)))
 
-pub sealed-fits : (key iv message : List ℕ) (room : ℕ) → firstRow (sealRows aes key iv message room) ≡ 0 → length message / 16 * 16 + 48 ≤ room
-sealed-fits key iv message room e =
-    let f : length (sealedRecord aes key iv message) ≤ room = ltb-false room (length (sealedRecord aes key iv message)) (head-passed 4 _ _ (tail-passed 9 _ _ (tail-passed 2 _ _ (tail-passed 1 _ _ (tail-passed 0 _ _ e))))) in
-    omega (arith, f, sealed-length aes aes-lawful key (key-passed key _ e) iv (iv-16 key iv _ e) message)
+pub sealed-fits : (n : Named) (key iv message : List ℕ) (room : ℕ) → firstRow (sealRows (finishNamed n) aes key iv message room) ≡ 0
+    → sealedLength (finishNamed n) (length message) ≤ room
+sealed-fits n key iv message room e =
+    let t = finishNamed n in
+    let f : length (sealedRecord t aes key iv message) ≤ room = ltb-false room (length (sealedRecord t aes key iv message)) (head-passed 4 _ _ (tail-passed 9 _ _ (tail-passed 2 _ _ (tail-passed 1 _ _ (tail-passed 0 _ _ e))))) in
+    omega (arith, f, sealed-length aes aes-lawful key (key-passed key _ e) iv (iv-16 key iv _ e) t (both aes aes-lawful n) message)

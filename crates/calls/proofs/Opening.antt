@@ -11,10 +11,11 @@ use lib.Dec.{ltb}
 use lib.ListN.{length, take, drop, getD, length-drop}
 use lib.Seq.{getD-append-seam, getD-append-add, getD-drop, drop-cons, split-at, take-at, take-all, length-take-le}
 use Rattle.blocks.specs.Bytes.{zeros, same}
-use Rattle.mode.specs.Mode.{ciphertext, padded, blocksOf, ivPart, cipherPart, tagPart, unbrokenTag}
+use Rattle.mode.specs.Mode.{Finish, overhead, ciphertext, padded, blocksOf, ivPart, cipherPart, tagPart, unbrokenTag}
 use Rattle.mode.specs.Aes.{aes}
 use Rattle.mode.specs.Table.{Answer, refused, decide, firstRow}
 use Rattle.mode.specs.Calls.{Outcome, outcomeBy, unpadFrom, unpadded, notPadded, orEmpty, plaintextOf, openRows, openSealed, writtenOf, number}
+use Rattle.mode.specs.Parallel.{Fits}
 use Rattle.mode.proofs.Blocks.{length-padded}
 use Rattle.mode.proofs.Bytes.{unpad-sound, unpad-complete}
 use Rattle.mode.proofs.Demand2.{sealed-lengths}
@@ -155,42 +156,48 @@ message-released text room e en h = by (unpadFrom 16 text) refl en
 -- ---- the rows
 
 -- the rows by lengths: what is known where none holds
-pub lengths-passed : (key sealed : List ℕ) (room : ℕ) → firstRow (openFirstRows key sealed room) ≡ 0 → KeyLength key × (SealedLengths sealed × (length sealed - 32 ≤ room))
-lengths-passed key sealed room e =
+pub lengths-passed : (t : Finish) (key sealed : List ℕ) (room : ℕ) → firstRow (openFirstRows t key sealed room) ≡ 0 → KeyLength key × (SealedLengths t sealed × (length sealed - overhead t ≤ room))
+unfolding Fits
+lengths-passed t key sealed room e =
     let e₃ = tail-passed 0 _ _ e in
-    let l = sealed-lengths sealed (head-passed 2 _ _ e₃) in
-    let f : length (cipherPart sealed) ≤ room = ltb-false room (length (cipherPart sealed)) (head-passed 4 _ _ (tail-passed 9 _ _ (tail-passed 2 _ _ e₃))) in
-    (key-passed key _ e, (record { least = l .0; aligned = l .2 }, omega (arith, f, cipher-length sealed (l .0))))
+    let l = sealed-lengths t sealed (head-passed 2 _ _ e₃) in
+    let f : length (cipherPart t sealed) ≤ room = ltb-false room (length (cipherPart t sealed)) (head-passed 4 _ _ (tail-passed 9 _ _ (tail-passed 2 _ _ e₃))) in
+    (key-passed key _ e, (record { least = l .0; aligned = l .2 }, omega (arith, f, cipher-length t sealed (omega (arith, l .0)))))
 
-pub tag-block : (sealed : List ℕ) → 48 ≤ length sealed → take 16 (drop (length sealed - 16) sealed) ≡ tagPart sealed
+-- the tag is what is left behind IV and ciphertext
+pub tag-there : (t : Finish) (sealed : List ℕ) → 16 + overhead t ≤ length sealed → drop (16 + (length sealed - overhead t)) sealed ≡ tagPart t sealed
 unfolding tagPart
-tag-block sealed h = take-all 16 (drop (length sealed - 16) sealed) (le-of-eq (length-drop (length sealed - 16) sealed ∙ omega arith))
+tag-there t sealed h = ap (λ (n : ℕ). drop n sealed) (let e : 16 + (length sealed - overhead t) ≡ length sealed - t .tagLength = omega arith in e)
+
+pub length-tag : (t : Finish) (sealed : List ℕ) → 16 + overhead t ≤ length sealed → length (tagPart t sealed) ≡ t .tagLength
+unfolding tagPart
+length-tag t sealed h = length-drop (length sealed - t .tagLength) sealed ∙ omega arith
 
 -- the rows by contents: 6 and 7
 
-abbrev tagGiven : List ℕ → List ℕ → List ℕ
-tagGiven key sealed = unbrokenTag aes ciphertext key (ivPart sealed) (blocksOf (cipherPart sealed))
+abbrev tagGiven : Finish → List ℕ → List ℕ → List ℕ
+tagGiven t key sealed = unbrokenTag t aes ciphertext key (ivPart sealed) (blocksOf (cipherPart t sealed))
 
-module _ (key sealed : List ℕ) (room : ℕ) where
+module _ (t : Finish) (key sealed : List ℕ) (room : ℕ) where
   abbrev message : List ℕ
-  message = orEmpty (unpadded (plaintextOf aes key sealed))
+  message = orEmpty (unpadded (plaintextOf t aes key sealed))
 
   abbrev byContents : Bool → List (ℕ × Bool)
-  byContents t = (6, not t) ∷ (7, notPadded (unpadded (plaintextOf aes key sealed))) ∷ []
+  byContents right = (6, not right) ∷ (7, notPadded (unpadded (plaintextOf t aes key sealed))) ∷ []
 
-  pub lengths-refused : (n : ℕ) → n ≡ firstRow (openFirstRows key sealed room) → (n ≡ 0 → ⊥) → decide (openRows aes key sealed room) message ≡ refused n
+  pub lengths-refused : (n : ℕ) → n ≡ firstRow (openFirstRows t key sealed room) → (n ≡ 0 → ⊥) → decide (openRows t aes key sealed room) message ≡ refused n
   unfolding openRows
-  lengths-refused n e h = first-refuses (openFirstRows key sealed room) (byContents (same (tagGiven key sealed) (tagPart sealed))) message n (sym e) h
+  lengths-refused n e h = first-refuses (openFirstRows t key sealed room) (byContents (same (tagGiven t key sealed) (tagPart t sealed))) message n (sym e) h
 
-  module _ (e : firstRow (openFirstRows key sealed room) ≡ 0) where
-    left-to-decide : decide (openRows aes key sealed room) message ≡ decide (byContents (same (tagGiven key sealed) (tagPart sealed))) message
+  module _ (e : firstRow (openFirstRows t key sealed room) ≡ 0) where
+    left-to-decide : decide (openRows t aes key sealed room) message ≡ decide (byContents (same (tagGiven t key sealed) (tagPart t sealed))) message
     unfolding openRows
-    left-to-decide = first-passes (openFirstRows key sealed room) (byContents (same (tagGiven key sealed) (tagPart sealed))) message tt e
+    left-to-decide = first-passes (openFirstRows t key sealed room) (byContents (same (tagGiven t key sealed) (tagPart t sealed))) message tt e
 
-    pub tag-differs : same (tagGiven key sealed) (tagPart sealed) ≡ false → decide (openRows aes key sealed room) message ≡ refused 6
+    pub tag-differs : same (tagGiven t key sealed) (tagPart t sealed) ≡ false → decide (openRows t aes key sealed room) message ≡ refused 6
     unfolding decide
-    tag-differs d = left-to-decide ∙ ap (λ (t : Bool). decide (byContents t) message) d
+    tag-differs d = left-to-decide ∙ ap (λ (right : Bool). decide (byContents right) message) d
 
-    pub tag-right : same (tagGiven key sealed) (tagPart sealed) ≡ true → openSealed aes key sealed room ≡ released (plaintextOf aes key sealed) room
+    pub tag-right : same (tagGiven t key sealed) (tagPart t sealed) ≡ true → openSealed t aes key sealed room ≡ released (plaintextOf t aes key sealed) room
     unfolding decide openSealed released
-    tag-right d = ap (λ (a : Answer (List ℕ)). outcomeBy a message room) (left-to-decide ∙ ap (λ (t : Bool). decide (byContents t) message) d)
+    tag-right d = ap (λ (a : Answer (List ℕ)). outcomeBy a message room) (left-to-decide ∙ ap (λ (right : Bool). decide (byContents right) message) d)

@@ -3,17 +3,17 @@ use mathlib.Core.Path.{_≡_}
 use mathlib.Core.Bool.{Bool, not}
 use mathlib.Core.List.{List, [], _∷_, _++_}
 use mathlib.Core.Option.{Option, some, none as no-message}
-use Prim.Native.Nat.{ℕ, _+_, _/_, _%_, _-_, _≤_}
+use Prim.Native.Nat.{ℕ, _+_, _*_, _/_, _%_, _-_, _≤_}
 use lib.ListN.{length}
 use lib.Dec.{eqb}
 use Rattle.blocks.specs.Bytes.{zeros}
 use Rattle.mode.specs.declared.RunRecord.{RunRecord}
-use Rattle.mode.specs.Mode.{Pass, ciphertext, blocksOf, unbrokenTag, ivPart, cipherPart, inWords}
+use Rattle.mode.specs.Mode.{Finish, overhead, Pass, ciphertext, blocksOf, unbrokenTag, ivPart, cipherPart, inWords}
 use Rattle.mode.specs.Aes.{aes}
 use Rattle.mode.specs.Table.{decide, notKey, not16, notSealed, beyond, zeroMask, tooShort}
 use Rattle.mode.specs.declared.Written.{Written}
 use Rattle.mode.specs.declared.RunAnswer.{RunAnswer}
-use Rattle.mode.specs.Calls.{Outcome, outcomeBy, blank, plaintextOf, unpadded, notPadded, orEmpty}
+use Rattle.mode.specs.Calls.{Outcome, outcomeBy, blank, heldTag, plaintextOf, unpadded, notPadded, orEmpty}
 
 -- a text sealed in front of an output, of which this many bytes are left
 pub record TextSealed (p : Pass) (left : ℕ) (new mask preauthenticator : List ℕ) : Type 0 where
@@ -22,12 +22,12 @@ pub record TextSealed (p : Pass) (left : ℕ) (new mask preauthenticator : List 
   pub authenticated : preauthenticator ≡ p .preauthenticator
 
 -- the rows of opening that stand before 6
-abbrev pub openFirstRows : List ℕ → List ℕ → ℕ → List (ℕ × Bool)
-openFirstRows key sealed room =
+abbrev pub openFirstRows : Finish → List ℕ → List ℕ → ℕ → List (ℕ × Bool)
+openFirstRows t key sealed room =
     (1, notKey key)
-    ∷ (3, notSealed sealed)
+    ∷ (3, notSealed t sealed)
     ∷ (10, zeroMask aes key (ivPart sealed))
-    ∷ (5, tooShort room (length (cipherPart sealed)))
+    ∷ (5, tooShort room (length (cipherPart t sealed)))
     ∷ []
 
 -- the rows that sealing and checking a run share, by the number of its bytes as it is laid out
@@ -51,18 +51,22 @@ refusedRun n = record { refusal = n; length = 0; run = blank inWords }
 abbrev pub writtenGiven : ℕ → Written
 writtenGiven n = record { refusal = 0; length = n }
 
+-- the bytes of the sealed record of a message of n bytes
+abbrev pub sealedLength : Finish → ℕ → ℕ
+sealedLength t n = n / 16 * 16 + (16 + overhead t)
+
 -- ---- opening
 
 -- a length that opening takes
-pub record SealedLengths (sealed : List ℕ) : Type 0 where
-  pub least : 48 ≤ length sealed
-  pub aligned : length sealed % 16 ≡ 0
+pub record SealedLengths (t : Finish) (sealed : List ℕ) : Type 0 where
+  pub least : 16 + overhead t ≤ length sealed
+  pub aligned : (length sealed - overhead t) % 16 ≡ 0
 
--- the plaintext in front of an output, and the tag that the ciphertext gives
-pub record TextOpened (key sealed : List ℕ) (room : ℕ) (new tag : List ℕ) : Type 0 where
-  pub written : new ≡ plaintextOf aes key sealed ++ zeros (room - (length sealed - 32))
-  pub long : length (plaintextOf aes key sealed) ≡ length sealed - 32
-  pub tagged : tag ≡ unbrokenTag aes ciphertext key (ivPart sealed) (blocksOf (cipherPart sealed))
+-- the plaintext in front of an output, and the tag that the ciphertext gives, as it is held
+pub record TextOpened (t : Finish) (key sealed : List ℕ) (room : ℕ) (new tag : List ℕ) : Type 0 where
+  pub written : new ≡ plaintextOf t aes key sealed ++ zeros (room - (length sealed - overhead t))
+  pub long : length (plaintextOf t aes key sealed) ≡ length sealed - overhead t
+  pub tagged : tag ≡ heldTag (unbrokenTag t aes ciphertext key (ivPart sealed) (blocksOf (cipherPart t sealed)))
 
 -- where the message ends in a padded text; its length where it is not padded
 unfoldable pub endBy : Option (List ℕ) → ℕ → ℕ

@@ -1,39 +1,47 @@
 // Open a sealed record.
 use mode::Written;
+use mode::finish::Finish;
 use runs::run::Task;
 ghost use mathlib.Core.Path.{_≡_};
 ghost use Prim.Native.Nat.{_-_, _%_, _≤_};
 ghost use lib.ListN.{length, take};
 ghost use Rattle.fips197.specs.Aes.{KeyLength};
+ghost use Rattle.mode.specs.Mode.{finishNamed, overhead};
 ghost use Rattle.mode.specs.Aes.{aes};
-ghost use Rattle.mode.specs.Table.{firstRow};
+ghost use Rattle.mode.specs.Table.{firstRow, notSealed};
 ghost use Rattle.mode.specs.Calls.{openSealed, writtenOf};
 ghost use Rattle.calls.specs.Layout.{Fresh};
 ghost use Rattle.calls.specs.Work.{openFirstRows, messageEnd, released, SealedLengths, TextOpened};
 
-// The shortest sealed record: an IV, a block and a tag.
-const SHORTEST: usize = 48;
+// Whether a record has a length that opening does not take: with no block, with too many, or with a part of one.
+fn not_sealed(finish: Finish, sealed: &[u8]) -> bool
+    ensures { λ b. ⌜ b ≡ notSealed (finishNamed finish) (now (sealed .entry)) ⌝ }
+{
+    let beside = mode::finish::overhead(finish);
+    if sealed.len() < 16 + beside {
+        return true;
+    }
+    let size = sealed.len() - beside;
+    if mode::LONGEST_CIPHERTEXT < size {
+        return true;
+    }
+    size % 16 != 0
+}
 
 // The first of the rows that stand before 6, or 0.
-fn open_refusal(key: &[u8], sealed: &[u8], room: usize) -> u8
-    ensures { λ n. ⌜ n ≡ firstRow (openFirstRows (now (key .entry)) (now (sealed .entry)) room) ⌝ }
+fn open_refusal(finish: Finish, key: &[u8], sealed: &[u8], room: usize) -> u8
+    ensures { λ n. ⌜ n ≡ firstRow (openFirstRows (finishNamed finish) (now (key .entry)) (now (sealed .entry)) room) ⌝ }
 {
     if cipher::not_key(key) {
         return 1;
     }
-    if sealed.len() < SHORTEST {
-        return 3;
-    }
-    if mode::LONGEST_SEALED < sealed.len() {
-        return 3;
-    }
-    if sealed.len() % 16 != 0 {
+    if not_sealed(finish, sealed) {
         return 3;
     }
     if tags::prepare::zero_mask(key, &sealed[..16]) {
         return 10;
     }
-    if room < sealed.len() - 32 {
+    if room < sealed.len() - mode::finish::overhead(finish) {
         return 5;
     }
     0
@@ -89,37 +97,41 @@ fn release(size: usize, out: &mut [u8]) -> Written
 
 // ---- opening
 
-// The plaintext into an output that holds zeros. The answer is the tag that the ciphertext gives.
-fn open_text(key: &[u8], sealed: &[u8], out: &mut [u8]) -> [u8; 16]
+// The plaintext into an output that holds zeros. The answer is the tag that the ciphertext gives, as it is held.
+fn open_text(
+    finish: Finish,
+    key: &[u8],
+    sealed: &[u8],
+    out: &mut [u8],
+) -> [u8; mode::finish::LONGEST_TAG]
     requires { ⌜ KeyLength (now key) ⌝ }
-    requires { ⌜ SealedLengths (now sealed) ⌝ }
+    requires { ⌜ SealedLengths (finishNamed finish) (now sealed) ⌝ }
     requires { ⌜ Fresh (now out) ⌝ }
-    requires { ⌜ length (now sealed) - 32 ≤ length (now out) ⌝ }
-    ensures { λ t. ⌜ TextOpened (now (key .entry)) (now (sealed .entry)) (length (now (out .entry))) (now (out .exit)) t ⌝ }
+    requires { ⌜ length (now sealed) - overhead (finishNamed finish) ≤ length (now out) ⌝ }
+    ensures { λ t. ⌜ TextOpened (finishNamed finish) (now (key .entry)) (now (sealed .entry)) (length (now (out .entry))) (now (out .exit)) t ⌝ }
 {
-    let stop = sealed.len() - 16;
+    let size = sealed.len() - mode::finish::overhead(finish);
     let p = tags::prepare::prepare(key, &sealed[..16]);
     let keys = p.keys;
     let start = p.start;
-    let count = sealed.len() / 16 - 2;
-    let chain = runs::run::run(Task::Open, start, &keys, &sealed[16..stop], count, out);
+    let text = &sealed[16..16 + size];
+    let chain = runs::run::run(Task::Open, start, &keys, text, size / 16, out);
     let mask = chain.mask;
     let preauthenticator = chain.preauthenticator;
-    tags::mask::tag(preauthenticator, mask, &keys)
+    tags::tag::tag(finish, key, preauthenticator, mask, &keys)
 }
 
-// All 16 bytes of the tag are compared before anything is let out.
-fn open_into(key: &[u8], sealed: &[u8], out: &mut [u8]) -> Written
-    requires { ⌜ firstRow (openFirstRows (now key) (now sealed) (length (now out))) ≡ 0 ⌝ }
+// All bytes of the tag are compared before anything is let out.
+fn open_into(finish: Finish, key: &[u8], sealed: &[u8], out: &mut [u8]) -> Written
+    requires { ⌜ firstRow (openFirstRows (finishNamed finish) (now key) (now sealed) (length (now out))) ≡ 0 ⌝ }
     requires { ⌜ Fresh (now out) ⌝ }
-    ensures answer { λ a. ⌜ a ≡ writtenOf (openSealed aes (now (key .entry)) (now (sealed .entry)) (length (now (out .entry)))) ⌝ }
-    ensures output { λ _. ⌜ now (out .exit) ≡ (openSealed aes (now (key .entry)) (now (sealed .entry)) (length (now (out .entry)))) .output ⌝ }
+    ensures answer { λ a. ⌜ a ≡ writtenOf (openSealed (finishNamed finish) aes (now (key .entry)) (now (sealed .entry)) (length (now (out .entry)))) ⌝ }
+    ensures output { λ _. ⌜ now (out .exit) ≡ (openSealed (finishNamed finish) aes (now (key .entry)) (now (sealed .entry)) (length (now (out .entry)))) .output ⌝ }
 {
-    let tag = open_text(key, sealed, out);
-    let stop = sealed.len() - 16;
-    let size = sealed.len() - 32;
-    let given = blocks::block::load(sealed, stop);
-    if !blocks::block::equal(tag, given) {
+    let tag = open_text(finish, key, sealed, out);
+    let size = sealed.len() - mode::finish::overhead(finish);
+    let stop = 16 + size;
+    if !tags::tag::is_tag(tag, &sealed[stop..]) {
         blocks::block::clear(&mut out[0..size]); // the plaintext; behind it the output is zero
         return Written {
             refusal: 6,
@@ -130,14 +142,14 @@ fn open_into(key: &[u8], sealed: &[u8], out: &mut [u8]) -> Written
 }
 
 // OPEN a sealed record under a key: the message is written to the front of the output.
-pub fn open(key: &[u8], sealed: &[u8], out: &mut [u8]) -> Written
-    ensures answer { λ a. ⌜ a ≡ writtenOf (openSealed aes (now (key .entry)) (now (sealed .entry)) (length (now (out .entry)))) ⌝ }
-    ensures output { λ _. ⌜ now (out .exit) ≡ (openSealed aes (now (key .entry)) (now (sealed .entry)) (length (now (out .entry)))) .output ⌝ }
+pub fn open(finish: Finish, key: &[u8], sealed: &[u8], out: &mut [u8]) -> Written
+    ensures answer { λ a. ⌜ a ≡ writtenOf (openSealed (finishNamed finish) aes (now (key .entry)) (now (sealed .entry)) (length (now (out .entry)))) ⌝ }
+    ensures output { λ _. ⌜ now (out .exit) ≡ (openSealed (finishNamed finish) aes (now (key .entry)) (now (sealed .entry)) (length (now (out .entry)))) .output ⌝ }
 {
     blocks::block::clear(out);
-    let refusal = open_refusal(key, sealed, out.len());
+    let refusal = open_refusal(finish, key, sealed, out.len());
     if refusal != 0 {
         return Written { refusal, length: 0 };
     }
-    open_into(key, sealed, out)
+    open_into(finish, key, sealed, out)
 }

@@ -1,21 +1,22 @@
 // Seal a message.
 use mode::Written;
+use mode::finish::Finish;
 ghost use mathlib.Core.Path.{_≡_};
 ghost use mathlib.Core.List.{_++_};
 ghost use Prim.Native.Nat.{_+_, _*_, _-_, _/_, _≤_};
 ghost use lib.ListN.{length};
 ghost use Rattle.blocks.specs.Bytes.{zeros};
-ghost use Rattle.mode.specs.Mode.{sealedRecord};
+ghost use Rattle.mode.specs.Mode.{sealedRecord, finishNamed};
 ghost use Rattle.fips197.specs.Aes.{KeyLength};
 ghost use Rattle.mode.specs.Aes.{aes};
 ghost use Rattle.mode.specs.Table.{firstRow};
 ghost use Rattle.mode.specs.Calls.{sealRows, seal as sealOf, writtenOf};
 ghost use Rattle.calls.specs.Layout.{Fresh};
-ghost use Rattle.calls.specs.Work.{writtenGiven};
+ghost use Rattle.calls.specs.Work.{writtenGiven, sealedLength};
 
 // The first row of the table that holds, or 0.
-fn seal_refusal(key: &[u8], iv: &[u8], message: &[u8], room: usize) -> u8
-    ensures { λ n. ⌜ n ≡ firstRow (sealRows aes (now (key .entry)) (now (iv .entry)) (now (message .entry)) room) ⌝ }
+fn seal_refusal(finish: Finish, key: &[u8], iv: &[u8], message: &[u8], room: usize) -> u8
+    ensures { λ n. ⌜ n ≡ firstRow (sealRows (finishNamed finish) aes (now (key .entry)) (now (iv .entry)) (now (message .entry)) room) ⌝ }
 {
     if cipher::not_key(key) {
         return 1;
@@ -26,7 +27,7 @@ fn seal_refusal(key: &[u8], iv: &[u8], message: &[u8], room: usize) -> u8
     if mode::LONGEST_MESSAGE < message.len() {
         return 3;
     }
-    let needed = message.len() / 16 * 16 + 48;
+    let needed = message.len() / 16 * 16 + 16 + mode::finish::overhead(finish);
     let zero = tags::prepare::zero_mask(key, iv);
     if zero {
         return 10;
@@ -38,13 +39,13 @@ fn seal_refusal(key: &[u8], iv: &[u8], message: &[u8], room: usize) -> u8
 }
 
 // The IV, the ciphertext and the tag.
-fn seal_into(key: &[u8], iv: &[u8], message: &[u8], out: &mut [u8]) -> Written
+fn seal_into(finish: Finish, key: &[u8], iv: &[u8], message: &[u8], out: &mut [u8]) -> Written
     requires { ⌜ KeyLength (now key) ⌝ }
     requires { ⌜ length (now iv) ≡ 16 ⌝ }
     requires { ⌜ Fresh (now out) ⌝ }
-    requires { ⌜ length (now message) / 16 * 16 + 48 ≤ length (now out) ⌝ }
-    ensures answer { λ a. ⌜ a ≡ writtenGiven (length (now (message .entry)) / 16 * 16 + 48) ⌝ }
-    ensures output { λ _. ⌜ now (out .exit) ≡ sealedRecord aes (now (key .entry)) (now (iv .entry)) (now (message .entry)) ++ zeros (length (now (out .entry)) - (length (now (message .entry)) / 16 * 16 + 48)) ⌝ }
+    requires { ⌜ sealedLength (finishNamed finish) (length (now message)) ≤ length (now out) ⌝ }
+    ensures answer { λ a. ⌜ a ≡ writtenGiven (sealedLength (finishNamed finish) (length (now (message .entry)))) ⌝ }
+    ensures output { λ _. ⌜ now (out .exit) ≡ sealedRecord (finishNamed finish) aes (now (key .entry)) (now (iv .entry)) (now (message .entry)) ++ zeros (length (now (out .entry)) - sealedLength (finishNamed finish) (length (now (message .entry)))) ⌝ }
 {
     let p = tags::prepare::prepare(key, iv);
     let keys = p.keys;
@@ -54,24 +55,24 @@ fn seal_into(key: &[u8], iv: &[u8], message: &[u8], out: &mut [u8]) -> Written
     let chain = crate::text::seal_text(message, true, start, &keys, &mut out[16..]);
     let mask = chain.mask;
     let preauthenticator = chain.preauthenticator;
-    let tag = tags::mask::tag(preauthenticator, mask, &keys);
+    let tag = tags::tag::tag(finish, key, preauthenticator, mask, &keys);
     let at = crate::text::laid_out_length(message, true) + 16;
-    blocks::block::store(out, at, tag);
+    tags::tag::put(finish, tag, out, at);
     Written {
         refusal: 0,
-        length: at + 16,
+        length: at + mode::finish::tag_length(finish),
     }
 }
 
 // SEAL a message under a key and an IV: the sealed record is written to the front of the output.
-pub fn seal(key: &[u8], iv: &[u8], message: &[u8], out: &mut [u8]) -> Written
-    ensures answer { λ a. ⌜ a ≡ writtenOf (sealOf aes (now (key .entry)) (now (iv .entry)) (now (message .entry)) (length (now (out .entry)))) ⌝ }
-    ensures output { λ _. ⌜ now (out .exit) ≡ (sealOf aes (now (key .entry)) (now (iv .entry)) (now (message .entry)) (length (now (out .entry)))) .output ⌝ }
+pub fn seal(finish: Finish, key: &[u8], iv: &[u8], message: &[u8], out: &mut [u8]) -> Written
+    ensures answer { λ a. ⌜ a ≡ writtenOf (sealOf (finishNamed finish) aes (now (key .entry)) (now (iv .entry)) (now (message .entry)) (length (now (out .entry)))) ⌝ }
+    ensures output { λ _. ⌜ now (out .exit) ≡ (sealOf (finishNamed finish) aes (now (key .entry)) (now (iv .entry)) (now (message .entry)) (length (now (out .entry)))) .output ⌝ }
 {
     blocks::block::clear(out);
-    let refusal = seal_refusal(key, iv, message, out.len());
+    let refusal = seal_refusal(finish, key, iv, message, out.len());
     if refusal != 0 {
         return Written { refusal, length: 0 };
     }
-    seal_into(key, iv, message, out)
+    seal_into(finish, key, iv, message, out)
 }

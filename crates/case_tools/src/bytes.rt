@@ -111,7 +111,16 @@ pub fn gives_record(a: RecordAnswer, run: RunRecord) -> bool {
     a.refusal == 0 && same_record(a.run, run)
 }
 
-pub fn gives_tag(a: TagAnswer, tag: [u8; 16]) -> bool {
-    let given = a.tag;
-    a.refusal == 0 && blocks::block::equal(given, tag)
+// The refusal is as it should be, and the tag, with zeros behind it. Beside a refusal it is empty.
+fn tagged(a: TagAnswer, refusal: u8, tag: &[u8]) -> bool {
+    let held = a.tag;
+    a.refusal == refusal && starts_with(&held, tag) && zero_from(&held, tag.len())
+}
+
+pub fn gives_tag(a: TagAnswer, tag: &[u8]) -> bool {
+    tagged(a, 0, tag)
+}
+
+pub fn refuses_tag(a: TagAnswer, refusal: u8) -> bool {
+    tagged(a, refusal, b"")
 }

@@ -13,6 +13,7 @@ use case_tools::random::fill;
 use case_tools::random::noise;
 use mode::RecordAnswer;
 use mode::RunRecord;
+use mode::finish::Finish;
 
 // How many messages agreed, by what was tried; the exclusive or of the tags, and of the last ciphertext blocks, of whole sealing. It is
 // given for one message, and for all.
@@ -52,11 +53,14 @@ fn closes(key: [u8; 16], iv: [u8; 16], joined: RecordAnswer, tag: [u8; 16]) -> b
     if joined.refusal != 0 {
         return false;
     }
-    gives_tag(tags::record::close(&key, &iv, joined.run), tag)
+    gives_tag(
+        tags::record::close(Finish::Cipher, &key, &iv, joined.run),
+        &tag,
+    )
 }
 
 fn passes(key: [u8; 16], iv: [u8; 16], run: RunRecord, tag: [u8; 16]) -> bool {
-    tags::record::test(&key, &iv, run, &tag) == 0
+    tags::record::test(Finish::Cipher, &key, &iv, run, &tag) == 0
 }
 
 // The ciphertext checked in runs gives the record that it gives in one run, and that record passes the tag.
@@ -118,7 +122,7 @@ fn one_message(key: [u8; 16], iv: [u8; 16], seed: u32, message: &[u8]) -> Agreed
 {
     let mut sealed = [0u8; 6144];
     noise(&mut sealed);
-    let w = calls::seal::seal(&key, &iv, message, &mut sealed);
+    let w = calls::seal::seal(Finish::Cipher, &key, &iv, message, &mut sealed);
     if !written(w, 0, message.len() / 16 * 16 + 48, &sealed) {
         return nothing();
     }

@@ -10,6 +10,7 @@ use case_tools::hex::bytes_at;
 use case_tools::open::answers;
 use case_tools::paper;
 use mode::RecordAnswer;
+use mode::finish::Finish;
 
 // The record of a message of 20 bytes, as vectors/make-mode-vectors seals it: IV, two blocks, tag.
 fn sealed() -> [u8; 64] {
@@ -70,7 +71,7 @@ fn test(key: [u8; 16], sealed: &[u8]) -> u8
     if joined.refusal != 0 {
         return NO_ANSWER;
     }
-    tags::record::test(&key, &iv, joined.run, &tag)
+    tags::record::test(Finish::Cipher, &key, &iv, joined.run, &tag)
 }
 
 // The record as it is: sealed, opened and tested.

@@ -17,6 +17,7 @@ use case_tools::paper::key;
 use case_tools::paper::long_key;
 use case_tools::random::noise;
 use mode::RunRecord;
+use mode::finish::Finish;
 
 // ---- values as printed
 
@@ -48,9 +49,9 @@ fn run_gives(key: &[u8], iv: [u8; 16], text: &[u8], cipher: &[u8], run: RunRecor
 fn tag_is(key: &[u8], iv: [u8; 16], run: RunRecord, tag: [u8; 16]) -> usize
     ensures { λ r. ⌜ r ≤ 2 ⌝ }
 {
-    let closed = tags::record::close(key, &iv, run);
-    let tested = tags::record::test(key, &iv, run, &tag);
-    one_if(gives_tag(closed, tag)) + one_if(tested == 0)
+    let closed = tags::record::close(Finish::Cipher, key, &iv, run);
+    let tested = tags::record::test(Finish::Cipher, key, &iv, run, &tag);
+    one_if(gives_tag(closed, &tag)) + one_if(tested == 0)
 }
 
 // The paper's first block, m1, alone: its ciphertext, its record and the tag.

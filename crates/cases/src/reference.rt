@@ -6,6 +6,7 @@ use case_tools::bytes::answered;
 use case_tools::bytes::one_if;
 use case_tools::hex::block_at;
 use case_tools::hex::bytes_at;
+use mode::finish::Finish;
 
 // How many lines agreed, by what was tried.
 pub struct Agreed {
@@ -20,7 +21,7 @@ pub fn seals(key: &[u8], iv: [u8; 16], message: &[u8], sealed: &[u8]) -> usize
 {
     let mut out = [0u8; 256];
     case_tools::random::noise(&mut out);
-    let w = calls::seal::seal(key, &iv, message, &mut out);
+    let w = calls::seal::seal(Finish::Cipher, key, &iv, message, &mut out);
     one_if(answered(w, 0, sealed, &out))
 }
 
@@ -39,7 +40,7 @@ fn tests(key: &[u8], iv: [u8; 16], sealed: &[u8]) -> usize
 {
     let stop = sealed.len() - 16;
     let checked = calls::run::check_run(key, &iv, 0, &sealed[16..stop]);
-    let tested = tags::record::test(key, &iv, checked.run, &sealed[stop..]);
+    let tested = tags::record::test(Finish::Cipher, key, &iv, checked.run, &sealed[stop..]);
     one_if((checked.refusal == 0) & (tested == 0))
 }
 

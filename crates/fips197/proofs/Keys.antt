@@ -18,6 +18,10 @@ pub at-least-16 : (key : List ℕ) → KeyLength key → 16 ≤ length key
 at-least-16 key (short e) = omega arith
 at-least-16 key (long e) = omega arith
 
+pub at-most-32 : (key : List ℕ) → KeyLength key → length key ≤ 32
+at-most-32 key (short e) = omega arith
+at-most-32 key (long e) = omega arith
+
 -- ---- a key has neither length exactly where `notKey` says so
 
 pub is-key : (key : List ℕ) → KeyLength key → notKey key ≡ false

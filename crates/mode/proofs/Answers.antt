@@ -8,8 +8,8 @@ use lib.ListN.{length}
 use Rattle.blocks.specs.Bytes.{zeros}
 use Rattle.mode.specs.declared.RunRecord.{RunRecord}
 use Rattle.mode.specs.Table.{Answer, refused, given, decide, firstRow}
-use Rattle.mode.specs.Calls.{Outcome, outcomeBy, number, orElse, writtenOf, runAnswerOf, recordAnswerOf, tagAnswerOf, refusedRecord, blank}
-use Rattle.mode.specs.Mode.{zeroBlock, inWords}
+use Rattle.mode.specs.Calls.{Outcome, outcomeBy, number, orElse, writtenOf, runAnswerOf, recordAnswerOf, heldTag, tagAnswerOf, refusedRecord, blank}
+use Rattle.mode.specs.Mode.{inWords}
 use Rattle.mode.proofs.Rows.{numbered, first-refuses, first-passes, no-more-rows, outcome-refused, outcome-given}
 
 -- ---- rows that decide all
@@ -63,11 +63,11 @@ pub given-record : (d : Answer RunRecord) (r : RunRecord) → d ≡ given r → 
 unfolding recordAnswerOf number orElse
 given-record d r e = sym (ap recordAnswerOf e)
 
-pub refused-tag : (d : Answer (List ℕ)) (n : ℕ) → d ≡ refused n → record { refusal = n; tag = zeroBlock } ≡ tagAnswerOf d
-unfolding tagAnswerOf number orElse
+pub refused-tag : (d : Answer (List ℕ)) (n : ℕ) → d ≡ refused n → record { refusal = n; tag = zeros 20 } ≡ tagAnswerOf d
+unfolding tagAnswerOf number orElse heldTag
 refused-tag d n e = sym (ap tagAnswerOf e)
 
-pub given-tag : (d : Answer (List ℕ)) (t : List ℕ) → d ≡ given t → record { refusal = 0; tag = t } ≡ tagAnswerOf d
+pub given-tag : (d : Answer (List ℕ)) (t : List ℕ) → d ≡ given t → record { refusal = 0; tag = heldTag t } ≡ tagAnswerOf d
 unfolding tagAnswerOf number orElse
 given-tag d t e = sym (ap tagAnswerOf e)
 

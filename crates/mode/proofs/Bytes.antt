@@ -11,7 +11,7 @@ use lib.Dec.{lit<, ltb, eqb}
 use borrow.Author.Tests.{ltb-true, ltb-false, eqb-true, not-false}
 use Rattle.blocks.specs.Bytes.{Bytes, Block, firstBlocks, same, concat}
 use Rattle.blocks.proofs.Chunks.{bytes-append, bytes-take, bytes-drop}
-use Rattle.mode.specs.Mode.{blocksOf, padded, ivPart, cipherPart, tagPart}
+use Rattle.mode.specs.Mode.{Finish, overhead, blocksOf, padded, ivPart, cipherPart, tagPart}
 use Rattle.mode.specs.Table.{unaligned}
 use Rattle.mode.specs.Calls.{Kind, middle, last, blocksOfRun, unalignedRun, unpadFrom}
 use Rattle.mode.proofs.Laws.{AllLong}
@@ -111,15 +111,15 @@ blocks-concat (b ∷ bs) h =
 
 -- ---- the parts of a sealed record
 
-pub parts-of : (iv text tag : List ℕ) → length iv ≡ 16 → length tag ≡ 16
-    → (ivPart (iv ++ text ++ tag) ≡ iv) × (cipherPart (iv ++ text ++ tag) ≡ text) × (tagPart (iv ++ text ++ tag) ≡ tag)
+pub parts-of : (t : Finish) (iv text tag : List ℕ) → length iv ≡ 16 → length tag ≡ t .tagLength
+    → (ivPart (iv ++ text ++ tag) ≡ iv) × (cipherPart t (iv ++ text ++ tag) ≡ text) × (tagPart t (iv ++ text ++ tag) ≡ tag)
 unfolding ivPart cipherPart tagPart
-parts-of iv text tag p q = (
+parts-of t iv text tag p q = (
   ap (take 16) (append-assoc iv text tag) ∙ take-at iv (text ++ tag) 16 p,
-  ap (λ (l : List ℕ). take (length (iv ++ text ++ tag) - 32) (drop 16 l)) (append-assoc iv text tag)
-      ∙ ap (take (length (iv ++ text ++ tag) - 32)) (drop-at iv (text ++ tag) 16 p)
-      ∙ take-at text tag (length (iv ++ text ++ tag) - 32) (omega (arith, n₁, n₂)),
-  drop-at (iv ++ text) tag (length (iv ++ text ++ tag) - 16) (omega (arith, n₁)),
+  ap (λ (l : List ℕ). take (length (iv ++ text ++ tag) - overhead t) (drop 16 l)) (append-assoc iv text tag)
+      ∙ ap (take (length (iv ++ text ++ tag) - overhead t)) (drop-at iv (text ++ tag) 16 p)
+      ∙ take-at text tag (length (iv ++ text ++ tag) - overhead t) (omega (arith, n₁, n₂)),
+  drop-at (iv ++ text) tag (length (iv ++ text ++ tag) - t .tagLength) (omega (arith, n₁)),
 )
   where
     n₁ : length (iv ++ text ++ tag) ≡ length (iv ++ text) + length tag
@@ -128,17 +128,17 @@ parts-of iv text tag p q = (
     n₂ : length (iv ++ text) ≡ length iv + length text
     n₂ = length-append iv text
 
-pub parts-whole : (sealed : List ℕ) → 48 ≤ length sealed → ivPart sealed ++ cipherPart sealed ++ tagPart sealed ≡ sealed
+pub parts-whole : (t : Finish) (sealed : List ℕ) → overhead t ≤ length sealed → ivPart sealed ++ cipherPart t sealed ++ tagPart t sealed ≡ sealed
 unfolding ivPart cipherPart tagPart
-parts-whole sealed h =
-    append-assoc (take 16 sealed) (take (length sealed - 32) (drop 16 sealed)) (drop (length sealed - 16) sealed)
+parts-whole t sealed h =
+    append-assoc (take 16 sealed) (take (length sealed - overhead t) (drop 16 sealed)) (drop (length sealed - t .tagLength) sealed)
     ∙ ap (λ (l : List ℕ). take 16 sealed ++ l)
-    (ap (λ (n : ℕ). take (length sealed - 32) (drop 16 sealed) ++ drop n sealed) there
-    ∙ ap (λ (l : List ℕ). take (length sealed - 32) (drop 16 sealed) ++ l) (sym (drop-drop (length sealed - 32) 16 sealed))
-    ∙ take-append-drop (length sealed - 32) (drop 16 sealed))
+    (ap (λ (n : ℕ). take (length sealed - overhead t) (drop 16 sealed) ++ drop n sealed) there
+    ∙ ap (λ (l : List ℕ). take (length sealed - overhead t) (drop 16 sealed) ++ l) (sym (drop-drop (length sealed - overhead t) 16 sealed))
+    ∙ take-append-drop (length sealed - overhead t) (drop 16 sealed))
     ∙ take-append-drop 16 sealed
   where
-    there : length sealed - 16 ≡ 16 + (length sealed - 32)
+    there : length sealed - t .tagLength ≡ 16 + (length sealed - overhead t)
     there = omega arith
 
 -- ---- padding undone

@@ -9,7 +9,7 @@ use lib.Dec.{T, ltb}
 use borrow.Author.Tests.{ltb-true}
 use Rattle.mode.specs.Mode.{Cipher, inWords}
 use Rattle.mode.specs.Table.{Answer, refused, given, decide, tableOrder, inOrder, NoneHolds, Decides}
-use Rattle.mode.specs.Calls.{Outcome, outcomeBy, seal, sealRows, openSealed, openRows, passFrom, runRecord, sealRun, sealRunRows, checkRun, checkRunRows, joined, joinTwo, joinTwoRows, joinList, joinListRows, closingTag, close, closeRows, test, testRows, jumpMask, jumpRows}
+use Rattle.mode.specs.Calls.{Outcome, outcomeBy, seal, sealRows, openSealed, openRows, passFrom, runRecord, sealRun, sealRunRows, checkRun, checkRunRows, joined, joinTwo, joinTwoRows, joinList, joinListRows, closingTag, close, closeRows, test, testRows, jumpMask, jumpRows, sha1Text, sha1Rows}
 use Rattle.mode.specs.Demands.{Gives, Refuses, Answered, AnsweredInto, Demand1, Decided, DecidedInto, Demand2c}
 use Rattle.mode.proofs.Rows.{outcome-refused, outcome-given}
 
@@ -101,18 +101,19 @@ answered-into {A} rows a bytes room t = by (answered rows a t)
     by (inr r) = inr (r .0, (r .1 .0, outcome-refuses (decide rows a) bytes room (r .0) (r .1 .1)))
 
 pub demand1 : (c : Cipher) → Demand1 c
-unfolding seal openSealed openRows sealRun checkRun joinTwo joinList close test jumpMask inTable
+unfolding seal openSealed openRows sealRun checkRun joinTwo joinList close test jumpMask sha1Text inTable
 demand1 c =
     record {
-      of-seal = λ key iv message room. answered-into (sealRows c key iv message room) _ _ room tt;
-      of-open = λ key sealed room. answered-into (openRows c key sealed room) _ _ room tt;
+      of-seal = λ t key iv message room. answered-into (sealRows t c key iv message room) _ _ room tt;
+      of-open = λ t key sealed room. answered-into (openRows t c key sealed room) _ _ room tt;
       of-seal-run = λ key iv first kind bytes room. answered-into (sealRunRows c key iv first kind bytes room) _ _ room tt;
       of-check-run = λ key iv first bytes. answered (checkRunRows c key iv first bytes) _ tt;
       of-join = λ l r. answered (joinTwoRows inWords l r) _ tt;
       of-join-list = λ rs. answered (joinListRows inWords rs) _ tt;
-      of-close = λ key iv r. answered (closeRows inWords c key iv r) _ tt;
-      of-test = λ key iv r tag. answered (testRows inWords c key iv r tag) tt tt;
+      of-close = λ t key iv r. answered (closeRows inWords c key iv r) _ tt;
+      of-test = λ t key iv r tag. answered (testRows inWords t c key iv r tag) tt tt;
       of-jump = λ mask distance room. answered-into (jumpRows mask distance room) _ _ room tt;
+      of-sha1 = λ text room. answered-into (sha1Rows text room) _ _ room tt;
     }
 
 -- ---- demand 2 (c)
@@ -135,16 +136,17 @@ decided-into rows a bytes room o =
     }
 
 pub demand2c : (c : Cipher) → Demand2c c
-unfolding seal openSealed openRows sealRun runRecord passFrom checkRun joined joinTwo joinList closingTag close test jumpMask inOrder
+unfolding seal openSealed openRows sealRun runRecord passFrom checkRun joined joinTwo joinList closingTag close test jumpMask sha1Text inOrder
 demand2c c =
     record {
-      of-seal = λ key iv message room. decided-into (sealRows c key iv message room) _ _ room refl;
-      of-open = λ key sealed room. decided-into (openRows c key sealed room) _ _ room refl;
+      of-seal = λ t key iv message room. decided-into (sealRows t c key iv message room) _ _ room refl;
+      of-open = λ t key sealed room. decided-into (openRows t c key sealed room) _ _ room refl;
       of-seal-run = λ key iv first kind bytes room. decided-into (sealRunRows c key iv first kind bytes room) _ _ room refl;
       of-check-run = λ key iv first bytes. decided (checkRunRows c key iv first bytes) _ refl;
       of-join = λ l r. decided (joinTwoRows inWords l r) _ refl;
       of-join-list = λ rs. decided (joinListRows inWords rs) _ refl;
-      of-close = λ key iv r. decided (closeRows inWords c key iv r) _ refl;
-      of-test = λ key iv r tag. decided (testRows inWords c key iv r tag) tt refl;
+      of-close = λ t key iv r. decided (closeRows inWords c key iv r) _ refl;
+      of-test = λ t key iv r tag. decided (testRows inWords t c key iv r tag) tt refl;
       of-jump = λ mask distance room. decided-into (jumpRows mask distance room) _ _ room refl;
+      of-sha1 = λ text room. decided-into (sha1Rows text room) _ _ room refl;
     }

@@ -17,14 +17,15 @@ use Rattle.blocks.proofs.XorBytes.{block-xor, xorBytes-cancel}
 use Rattle.gf128.specs.Gf128.{timesX, jump}
 use Rattle.gf128.proofs.TimesX.{length-jump, block-timesX}
 use Rattle.fips197.specs.Aes.{KeyLength, Key}
-use Rattle.mode.specs.Mode.{Cipher, Lawful, plaintext, ciphertext, zeroBlock, encrypt, startMask, middletext, written, pass, unbroken, tagFrom, unbrokenTag, blocksOf, padded, ivPart, cipherPart, tagPart, sealedRecord, UnbrokenCheck}
-use Rattle.mode.specs.Table.{Answer, refused, given, decide, NoneHolds, unaligned, tooLong, notSealed, zeroMask, longestMessage, longestSealed}
+use Rattle.mode.specs.Mode.{Cipher, Lawful, Finish, LawfulFinish, overhead, plaintext, ciphertext, zeroBlock, encrypt, startMask, middletext, written, pass, unbroken, unbrokenTag, blocksOf, padded, ivPart, cipherPart, tagPart, sealedRecord, UnbrokenCheck}
+use Rattle.mode.specs.Table.{Answer, refused, given, decide, NoneHolds, tooLong, notSealed, zeroMask, longestMessage, longestSealed}
 use Rattle.mode.specs.Calls.{unpadded, notPadded, orEmpty, decrypted, plaintextOf, openRows, openSealed, seal, sealRows}
+use Rattle.mode.specs.Parallel.{checking, Fits}
 use Rattle.mode.specs.Demands.{Gives, NonzeroMask, SealedFrom, Demand2a, Demand2b, OpensSealed, Demand2d}
 use Rattle.fips197.proofs.Keys.{is-key}
 use Rattle.mode.proofs.Rows.{not-too-long}
 use Rattle.mode.proofs.Decisions.{given-rows, passed-rows, outcome-answer, outcome-gives, outcome-given-bytes}
-use Rattle.mode.proofs.SealedLength.{sealed-length}
+use Rattle.mode.proofs.SealedLength.{unbroken-tag-long, sealed-length}
 use Rattle.mode.proofs.Laws.{xor-long, pass-mask, preauthenticator-long}
 use Rattle.mode.proofs.Blocks.{length-padded, count-middle}
 use Rattle.mode.proofs.Runs.{is16}
@@ -144,23 +145,13 @@ module _ (c : Cipher) (laws : Lawful c) (key : List ℕ) (kb : Key key) where
     abbrev mask0 : List ℕ
     mask0 = startMask c key iv
 
-    same-tag : (bs : List (List ℕ)) → AllBlocks bs → unbrokenTag c ciphertext key iv (sealedBlocks bs mask0) ≡ unbrokenTag c plaintext key iv bs
+    same-tag : (t : Finish) (bs : List (List ℕ)) → AllBlocks bs → unbrokenTag t c ciphertext key iv (sealedBlocks bs mask0) ≡ unbrokenTag t c plaintext key iv bs
     unfolding unbrokenTag unbroken
-    same-tag bs h =
-        ap₂ (tagFrom c key) (same-preauthenticator bs mask0 zeroBlock h (start-block c laws key kb iv ib))
+    same-tag t bs h =
+        ap₂ (t .tagFrom c key) (same-preauthenticator bs mask0 zeroBlock h (start-block c laws key kb iv ib))
         (pass-mask c laws ciphertext key (kb .size) (sealedBlocks bs mask0) mask0 zeroBlock
         ∙ ap (λ (n : ℕ). jump n mask0) (length-sealed bs mask0)
         ∙ sym (pass-mask c laws plaintext key (kb .size) bs mask0 zeroBlock))
-
-    tag-long : (bs : List (List ℕ)) → AllBlocks bs → length (unbrokenTag c plaintext key iv bs) ≡ 16
-    unfolding unbrokenTag unbroken tagFrom encrypt
-    tag-long bs h =
-        let p : length ((pass c plaintext key bs mask0 zeroBlock) .preauthenticator) ≡ 16 = preauthenticator-long c laws plaintext key (kb .size) bs mask0 zeroBlock (all-blocks-long bs h) (start-block c laws key kb iv ib .long) refl in
-        let m : length ((pass c plaintext key bs mask0 zeroBlock) .mask) ≡ 16 = rw (pass-mask c laws plaintext key (kb .size) bs mask0 zeroBlock) (length-jump (length bs) mask0 (start-block c laws key kb iv ib .long)) in
-        xor-long (encrypt c key (xorBytes ((pass c plaintext key bs mask0 zeroBlock) .preauthenticator) ((pass c plaintext key bs mask0 zeroBlock) .mask))) ((pass c plaintext key bs mask0 zeroBlock) .preauthenticator)
-        (laws .secondHalf-long key (c .firstHalf key (xorBytes ((pass c plaintext key bs mask0 zeroBlock) .preauthenticator) ((pass c plaintext key bs mask0 zeroBlock) .mask))) (kb .size)
-        (laws .firstHalf-long key (xorBytes ((pass c plaintext key bs mask0 zeroBlock) .preauthenticator) ((pass c plaintext key bs mask0 zeroBlock) .mask)) (kb .size)
-        (xor-long ((pass c plaintext key bs mask0 zeroBlock) .preauthenticator) ((pass c plaintext key bs mask0 zeroBlock) .mask) p m))) p
 
     unbroken-is : (bs : List (List ℕ)) → (unbroken c plaintext key iv bs) .output ≡ concat (sealedBlocks bs mask0)
     unfolding unbroken
@@ -172,16 +163,20 @@ pub or-false : (p q : Bool) → (p || q) ≡ false → (p ≡ false) × (q ≡ f
 or-false true q e = not-both (sym e)
 or-false false q e = (refl, e)
 
-pub sealed-lengths : (sealed : List ℕ) → notSealed sealed ≡ false → (48 ≤ length sealed) × (length sealed ≤ longestSealed) × (length sealed % 16 ≡ 0)
-unfolding notSealed unaligned
-sealed-lengths sealed e =
-    let a = or-false (ltb (length sealed) 48) (ltb longestSealed (length sealed) || not (eqb (length sealed % 16) 0)) e in
-    let b = or-false (ltb longestSealed (length sealed)) (not (eqb (length sealed % 16) 0)) (a .1) in
-    (ltb-false (length sealed) 48 (a .0), ltb-false longestSealed (length sealed) (b .0), eqb-true (length sealed % 16) 0 (not-false (eqb (length sealed % 16) 0) (b .1)))
+pub sealed-lengths : (t : Finish) (sealed : List ℕ) → notSealed t sealed ≡ false → Fits (checking t sealed)
+unfolding notSealed Fits
+sealed-lengths t sealed e =
+    let size = length sealed in
+    let rest = not (eqb ((size - overhead t) % 16) 0) in
+    let a = or-false (ltb size (16 + overhead t)) (ltb (longestSealed t) size || rest) e in
+    let b = or-false (ltb (longestSealed t) size) rest (a .1) in
+    (ltb-false size (16 + overhead t) (a .0), ltb-false (longestSealed t) size (b .0), eqb-true ((size - overhead t) % 16) 0 (not-false (eqb ((size - overhead t) % 16) 0) (b .1)))
 
-pub lengths-sealed : (sealed : List ℕ) → 48 ≤ length sealed → length sealed ≤ longestSealed → length sealed % 16 ≡ 0 → notSealed sealed ≡ false
-unfolding notSealed unaligned
-lengths-sealed sealed p q r = rw (le-ltb (length sealed) 48 p, le-ltb longestSealed (length sealed) q, eq-eqb (length sealed % 16) 0 r)
+pub lengths-sealed : (t : Finish) (sealed : List ℕ) → Fits (checking t sealed) → notSealed t sealed ≡ false
+unfolding notSealed Fits
+lengths-sealed t sealed h =
+    let size = length sealed in
+    rw (le-ltb size (16 + overhead t) (h .0), le-ltb (longestSealed t) size (h .1), eq-eqb ((size - overhead t) % 16) 0 (h .2))
 
 found : (o : Option (List ℕ)) (m : List ℕ) → notPadded o ≡ false → orEmpty o ≡ m → o ≡ some m
 unfolding notPadded orEmpty
@@ -191,47 +186,47 @@ found (some n) m e p = ap (λ (l : List ℕ). some l) p
 -- ---- sealing
 
 -- what is known where a record is given
-pub sealing-given : (c : Cipher) (key iv message r : List ℕ) (room : ℕ) → (seal c key iv message room) .answer ≡ given r
-    → NoneHolds (sealRows c key iv message room) × (sealedRecord c key iv message ≡ r)
+pub sealing-given : (t : Finish) (c : Cipher) (key iv message r : List ℕ) (room : ℕ) → (seal t c key iv message room) .answer ≡ given r
+    → NoneHolds (sealRows t c key iv message room) × (sealedRecord t c key iv message ≡ r)
 unfolding seal
-sealing-given c key iv message r room e =
-    let s = sealedRecord c key iv message in
-    given-rows (sealRows c key iv message room) s r (sym (outcome-answer (decide (sealRows c key iv message room) s) s room) ∙ e)
+sealing-given t c key iv message r room e =
+    let s = sealedRecord t c key iv message in
+    given-rows (sealRows t c key iv message room) s r (sym (outcome-answer (decide (sealRows t c key iv message room) s) s room) ∙ e)
 
 pub message-fits : (message : List ℕ) → tooLong message ≡ false → length message ≤ longestMessage
 unfolding tooLong
 message-fits message e = ltb-false longestMessage (length message) e
 
-module _ (c : Cipher) (key iv message : List ℕ) (nz : NonzeroMask c key iv) (hk : KeyLength key) (hi : length iv ≡ 16) (hm : length message ≤ longestMessage) where
-  seal-gives : (room : ℕ) → length (sealedRecord c key iv message) ≤ room
-      → Gives (seal c key iv message room) (sealedRecord c key iv message) (sealedRecord c key iv message) room
+module _ (t : Finish) (c : Cipher) (key iv message : List ℕ) (nz : NonzeroMask c key iv) (hk : KeyLength key) (hi : length iv ≡ 16) (hm : length message ≤ longestMessage) where
+  seal-gives : (room : ℕ) → length (sealedRecord t c key iv message) ≤ room
+      → Gives (seal t c key iv message room) (sealedRecord t c key iv message) (sealedRecord t c key iv message) room
   unfolding seal
   seal-gives room hr =
-      let s = sealedRecord c key iv message in
-      outcome-gives (decide (sealRows c key iv message room) s) s s room
-      (passed-rows (sealRows c key iv message room) s (is-key key hk, (is16 iv hi, (not-too-long message hm, (nz, (le-ltb room (length s) hr, tt))))))
+      let s = sealedRecord t c key iv message in
+      outcome-gives (decide (sealRows t c key iv message room) s) s s room
+      (passed-rows (sealRows t c key iv message room) s (is-key key hk, (is16 iv hi, (not-too-long message hm, (nz, (le-ltb room (length s) hr, tt))))))
 
   -- with room for the record that the formulas give
-  seals-to : (r : List ℕ) → sealedRecord c key iv message ≡ r → (seal c key iv message (length r)) .answer ≡ given r
+  seals-to : (r : List ℕ) → sealedRecord t c key iv message ≡ r → (seal t c key iv message (length r)) .answer ≡ given r
   seals-to r e = (seal-gives (length r) (le-of-eq (ap length e))) .answers ∙ ap (λ (x : List ℕ). given x) e
 
-module _ (c : Cipher) (laws : Lawful c) (key : List ℕ) (kb : Key key) where
+module _ (t : Finish) (c : Cipher) (laws : Lawful c) (key : List ℕ) (kb : Key key) where
   -- a message that is opened was sealed
-  open-sound : (sealed m : List ℕ) (room : ℕ) → Bytes sealed → (openSealed c key sealed room) .answer ≡ given m → SealedFrom c key sealed m
+  open-sound : (sealed m : List ℕ) (room : ℕ) → Bytes sealed → (openSealed t c key sealed room) .answer ≡ given m → SealedFrom t c key sealed m
   unfolding openSealed openRows
   open-sound sealed m room sb e =
       record {
         iv = iv;
         iv-block = ib;
         m-bytes = bytes-left-of (subst Bytes (sym padded-is) (bytes-concat bs bs-good));
-        seals = seals-to c key iv m (rows .0 .1 .1 .0) (kb .size) (ib .long) m-fits sealed whole;
+        seals = seals-to t c key iv m (rows .0 .1 .1 .0) (kb .size) (ib .long) m-fits sealed whole;
       }
     where
-      rows : NoneHolds (openRows c key sealed room) × (orEmpty (unpadded (plaintextOf c key sealed)) ≡ m)
-      rows = given-rows (openRows c key sealed room) (orEmpty (unpadded (plaintextOf c key sealed))) m (sym (outcome-answer (decide (openRows c key sealed room) (orEmpty (unpadded (plaintextOf c key sealed)))) _ room) ∙ e)
+      rows : NoneHolds (openRows t c key sealed room) × (orEmpty (unpadded (plaintextOf t c key sealed)) ≡ m)
+      rows = given-rows (openRows t c key sealed room) (orEmpty (unpadded (plaintextOf t c key sealed))) m (sym (outcome-answer (decide (openRows t c key sealed room) (orEmpty (unpadded (plaintextOf t c key sealed)))) _ room) ∙ e)
 
-      lens : (48 ≤ length sealed) × (length sealed ≤ longestSealed) × (length sealed % 16 ≡ 0)
-      lens = sealed-lengths sealed (rows .0 .1 .0)
+      lens : (16 + overhead t ≤ length sealed) × (length sealed ≤ longestSealed t) × ((length sealed - overhead t) % 16 ≡ 0)
+      lens = unfold Fits in (sealed-lengths t sealed (rows .0 .1 .0))
 
       iv : List ℕ
       iv = ivPart sealed
@@ -243,69 +238,69 @@ module _ (c : Cipher) (laws : Lawful c) (key : List ℕ) (kb : Key key) where
       mask = startMask c key (ivPart sealed)
 
       cs : List (List ℕ)
-      cs = blocksOf (cipherPart sealed)
+      cs = blocksOf (cipherPart t sealed)
 
-      aligned : length (cipherPart sealed) % 16 ≡ 0
-      aligned = ap (λ (n : ℕ). n % 16) (cipher-length sealed (lens .0)) ∙ omega (arith, lens .0, lens .2)
+      aligned : length (cipherPart t sealed) % 16 ≡ 0
+      aligned = ap (λ (n : ℕ). n % 16) (cipher-length t sealed (omega (arith, lens .0))) ∙ lens .2
 
-      cs-good : AllBlocks (blocksOf (cipherPart sealed))
-      cs-good = good-blocks (cipherPart sealed) aligned (unfold cipherPart in (bytes-take (length sealed - 32) (drop 16 sealed) (bytes-drop 16 sealed sb)))
+      cs-good : AllBlocks (blocksOf (cipherPart t sealed))
+      cs-good = good-blocks (cipherPart t sealed) aligned (unfold cipherPart in (bytes-take (length sealed - overhead t) (drop 16 sealed) (bytes-drop 16 sealed sb)))
 
       bs : List (List ℕ)
-      bs = openedBlocks c laws key kb (blocksOf (cipherPart sealed)) (startMask c key (ivPart sealed))
+      bs = openedBlocks c laws key kb (blocksOf (cipherPart t sealed)) (startMask c key (ivPart sealed))
 
-      bs-good : AllBlocks (openedBlocks c laws key kb (blocksOf (cipherPart sealed)) (startMask c key (ivPart sealed)))
+      bs-good : AllBlocks (openedBlocks c laws key kb (blocksOf (cipherPart t sealed)) (startMask c key (ivPart sealed)))
       bs-good = opened-good c laws key kb cs mask cs-good (start-block c laws key kb iv ib)
 
-      padded-is : padded m ≡ concat (openedBlocks c laws key kb (blocksOf (cipherPart sealed)) (startMask c key (ivPart sealed)))
+      padded-is : padded m ≡ concat (openedBlocks c laws key kb (blocksOf (cipherPart t sealed)) (startMask c key (ivPart sealed)))
       padded-is =
-          unpad-sound 16 (plaintextOf c key sealed) m (unfold unpadded in (found (unpadded (plaintextOf c key sealed)) m (rows .0 .1 .1 .1 .1 .1 .0) (rows .1)))
+          unpad-sound 16 (plaintextOf t c key sealed) m (unfold unpadded in (found (unpadded (plaintextOf t c key sealed)) m (rows .0 .1 .1 .1 .1 .1 .0) (rows .1)))
           ∙ plain-is
         where
-          plain-is : plaintextOf c key sealed ≡ concat (openedBlocks c laws key kb (blocksOf (cipherPart sealed)) (startMask c key (ivPart sealed)))
+          plain-is : plaintextOf t c key sealed ≡ concat (openedBlocks c laws key kb (blocksOf (cipherPart t sealed)) (startMask c key (ivPart sealed)))
           plain-is = unfold plaintextOf in (decrypted-is c laws key kb cs mask)
 
       bytes-left-of : Bytes (padded m) → Bytes m
       bytes-left-of h = bytes-left m (0x80 ∷ replicate (15 - length m % 16) 0) (unfold padded in h)
 
-      blocks-are : blocksOf (padded m) ≡ openedBlocks c laws key kb (blocksOf (cipherPart sealed)) (startMask c key (ivPart sealed))
+      blocks-are : blocksOf (padded m) ≡ openedBlocks c laws key kb (blocksOf (cipherPart t sealed)) (startMask c key (ivPart sealed))
       blocks-are = ap blocksOf padded-is ∙ blocks-concat bs bs-good
 
       back : sealedBlocks c laws key kb bs mask ≡ cs
       back = sealed-opened c laws key kb cs mask cs-good (start-block c laws key kb iv ib)
 
-      text-is : (unbroken c plaintext key iv bs) .output ≡ cipherPart sealed
-      text-is = unbroken-is c laws key kb iv ib bs ∙ ap concat back ∙ concat-blocks (cipherPart sealed) aligned
+      text-is : (unbroken c plaintext key iv bs) .output ≡ cipherPart t sealed
+      text-is = unbroken-is c laws key kb iv ib bs ∙ ap concat back ∙ concat-blocks (cipherPart t sealed) aligned
 
-      tag-is : unbrokenTag c plaintext key iv bs ≡ tagPart sealed
+      tag-is : unbrokenTag t c plaintext key iv bs ≡ tagPart t sealed
       tag-is =
-          sym (same-tag c laws key kb iv ib bs bs-good) ∙ ap (unbrokenTag c ciphertext key iv) back
-          ∙ same-true (unbrokenTag c ciphertext key iv cs) (tagPart sealed) (not-false (same (unbrokenTag c ciphertext key iv cs) (tagPart sealed)) (rows .0 .1 .1 .1 .1 .0))
+          sym (same-tag c laws key kb iv ib t bs bs-good) ∙ ap (unbrokenTag t c ciphertext key iv) back
+          ∙ same-true (unbrokenTag t c ciphertext key iv cs) (tagPart t sealed) (not-false (same (unbrokenTag t c ciphertext key iv cs) (tagPart t sealed)) (rows .0 .1 .1 .1 .1 .0))
 
       m-fits : length m ≤ longestMessage
       m-fits =
           let n : 16 * (length m / 16 + 1) ≡ 16 * length bs = sym (length-padded m) ∙ ap length padded-is ∙ length-concat bs bs-good in
-          let k : length bs ≡ (length sealed - 32) / 16 = length-opened c laws key kb cs mask ∙ count-middle (cipherPart sealed) ∙ ap (λ (n : ℕ). n / 16) (cipher-length sealed (lens .0)) in
+          let k : length bs ≡ (length sealed - overhead t) / 16 = length-opened c laws key kb cs mask ∙ count-middle (cipherPart t sealed) ∙ ap (λ (n : ℕ). n / 16) (cipher-length t sealed (omega (arith, lens .0))) in
           omega (arith, lens .1)
 
-      whole : sealedRecord c key (ivPart sealed) m ≡ sealed
+      whole : sealedRecord t c key (ivPart sealed) m ≡ sealed
       whole =
           unfold sealedRecord in
-          (ap (λ (b : List (List ℕ)). ivPart sealed ++ (unbroken c plaintext key (ivPart sealed) b) .output ++ unbrokenTag c plaintext key (ivPart sealed) b) blocks-are
+          (ap (λ (b : List (List ℕ)). ivPart sealed ++ (unbroken c plaintext key (ivPart sealed) b) .output ++ unbrokenTag t c plaintext key (ivPart sealed) b) blocks-are
           ∙ ap₂ (λ (x y : List ℕ). ivPart sealed ++ x ++ y) text-is tag-is
-          ∙ parts-whole sealed (lens .0))
+          ∙ parts-whole t sealed (omega (arith, lens .0)))
 
   -- what was sealed is opened
-  open-complete : (sealed m : List ℕ) (room : ℕ) → length (cipherPart sealed) ≤ room → SealedFrom c key sealed m → (openSealed c key sealed room) .answer ≡ given m
+  open-complete : LawfulFinish t c → (sealed m : List ℕ) (room : ℕ) → length (cipherPart t sealed) ≤ room → SealedFrom t c key sealed m → (openSealed t c key sealed room) .answer ≡ given m
   unfolding orEmpty
-  open-complete sealed m room h f =
-      subst (λ (r : List ℕ). length (cipherPart r) ≤ room → (openSealed c key r room) .answer ≡ given m) (g .1) by h
+  open-complete finish sealed m room h f =
+      subst (λ (r : List ℕ). length (cipherPart t r) ≤ room → (openSealed t c key r room) .answer ≡ given m) (g .1) by h
     where
       iv : List ℕ
       iv = f .iv
 
-      g : NoneHolds (sealRows c key (f .iv) m (length sealed)) × (sealedRecord c key (f .iv) m ≡ sealed)
-      g = sealing-given c key (f .iv) m sealed (length sealed) (f .seals)
+      g : NoneHolds (sealRows t c key (f .iv) m (length sealed)) × (sealedRecord t c key (f .iv) m ≡ sealed)
+      g = sealing-given t c key (f .iv) m sealed (length sealed) (f .seals)
 
       bs : List (List ℕ)
       bs = blocksOf (padded m)
@@ -323,56 +318,59 @@ module _ (c : Cipher) (laws : Lawful c) (key : List ℕ) (kb : Key key) where
       cs-good = sealed-good c laws key kb bs mask bs-good (start-block c laws key kb iv (f .iv-block))
 
       tag : List ℕ
-      tag = unbrokenTag c plaintext key (f .iv) (blocksOf (padded m))
+      tag = unbrokenTag t c plaintext key (f .iv) (blocksOf (padded m))
 
       text : List ℕ
       text = concat cs
 
       r : List ℕ
-      r = sealedRecord c key (f .iv) m
+      r = sealedRecord t c key (f .iv) m
 
-      r-is : sealedRecord c key (f .iv) m ≡ f .iv ++ text ++ tag
+      r-is : sealedRecord t c key (f .iv) m ≡ f .iv ++ text ++ tag
       r-is = unfold sealedRecord in (ap (λ (x : List ℕ). f .iv ++ x ++ tag) (unbroken-is c laws key kb iv (f .iv-block) bs))
 
-      parts : (ivPart (f .iv ++ text ++ tag) ≡ f .iv) × (cipherPart (f .iv ++ text ++ tag) ≡ text) × (tagPart (f .iv ++ text ++ tag) ≡ tag)
-      parts = parts-of (f .iv) text tag (f .iv-block .long) (tag-long c laws key kb iv (f .iv-block) bs bs-good)
+      tag-is-long : length (unbrokenTag t c plaintext key (f .iv) (blocksOf (padded m))) ≡ t .tagLength
+      tag-is-long = unbroken-tag-long c laws key (kb .size) iv (f .iv-block .long) t finish plaintext bs (all-blocks-long bs bs-good)
+
+      parts : (ivPart (f .iv ++ text ++ tag) ≡ f .iv) × (cipherPart t (f .iv ++ text ++ tag) ≡ text) × (tagPart t (f .iv ++ text ++ tag) ≡ tag)
+      parts = parts-of t (f .iv) text tag (f .iv-block .long) tag-is-long
 
       iv-is : ivPart r ≡ f .iv
       iv-is = ap ivPart r-is ∙ parts .0
 
-      text-is : cipherPart r ≡ text
-      text-is = ap cipherPart r-is ∙ parts .1
+      text-is : cipherPart t r ≡ text
+      text-is = ap (cipherPart t) r-is ∙ parts .1
 
-      tag-is : tagPart r ≡ tag
-      tag-is = ap tagPart r-is ∙ parts .2
+      tag-is : tagPart t r ≡ tag
+      tag-is = ap (tagPart t) r-is ∙ parts .2
 
-      blocks-are : blocksOf (cipherPart r) ≡ cs
+      blocks-are : blocksOf (cipherPart t r) ≡ cs
       blocks-are = ap blocksOf text-is ∙ blocks-concat cs cs-good
 
       count : length (blocksOf (padded m)) ≡ length m / 16 + 1
       count = count-middle (padded m) ∙ ap (λ (n : ℕ). n / 16) (length-padded m) ∙ omega arith
 
-      r-long : length r ≡ 16 * (length m / 16 + 1) + 32
+      r-long : length r ≡ 16 * (length m / 16 + 1) + overhead t
       r-long =
           ap length r-is ∙ length-append (f .iv ++ text) tag
           ∙ ap₂ (λ (x y : ℕ). x + y) (length-append (f .iv) text ∙ ap₂ (λ (x y : ℕ). x + y) (f .iv-block .long) (length-concat cs cs-good ∙ ap (λ (n : ℕ). 16 * n) (length-sealed c laws key kb bs mask ∙ count)))
-          (tag-long c laws key kb iv (f .iv-block) bs bs-good)
+          tag-is-long
           ∙ omega arith
 
-      fine : notSealed r ≡ false
-      fine = lengths-sealed r (rw r-long (omega arith)) (rw r-long (omega (arith, message-fits m (g .0 .1 .1 .0)))) (rw r-long (omega arith))
+      fine : notSealed t r ≡ false
+      fine = lengths-sealed t r (unfold Fits in (rw r-long (omega arith), rw r-long (omega (arith, message-fits m (g .0 .1 .1 .0))), rw r-long (omega arith)))
 
       masked : zeroMask c key (ivPart r) ≡ false
       masked = ap (zeroMask c key) iv-is ∙ g .0 .1 .1 .1 .0
 
-      tag-same : same (unbrokenTag c ciphertext key (ivPart r) (blocksOf (cipherPart r))) (tagPart r) ≡ true
+      tag-same : same (unbrokenTag t c ciphertext key (ivPart r) (blocksOf (cipherPart t r))) (tagPart t r) ≡ true
       tag-same =
           ap₂ (λ (x y : List ℕ). same x y)
-          (ap₂ (λ (v : List ℕ) (b : List (List ℕ)). unbrokenTag c ciphertext key v b) iv-is blocks-are ∙ same-tag c laws key kb iv (f .iv-block) bs bs-good)
+          (ap₂ (λ (v : List ℕ) (b : List (List ℕ)). unbrokenTag t c ciphertext key v b) iv-is blocks-are ∙ same-tag c laws key kb iv (f .iv-block) t bs bs-good)
           tag-is
           ∙ same-self tag
 
-      plain-is : plaintextOf c key r ≡ padded m
+      plain-is : plaintextOf t c key r ≡ padded m
       plain-is =
           unfold plaintextOf in
           (ap₂ (λ (v : List ℕ) (b : List (List ℕ)). decrypted c key b (startMask c key v)) iv-is blocks-are
@@ -380,97 +378,97 @@ module _ (c : Cipher) (laws : Lawful c) (key : List ℕ) (kb : Key key) where
           ∙ ap concat (opened-sealed c laws key kb bs mask bs-good (start-block c laws key kb iv (f .iv-block)))
           ∙ concat-blocks (padded m) (ap (λ (n : ℕ). n % 16) (length-padded m) ∙ omega arith))
 
-      message-is : unpadded (plaintextOf c key r) ≡ some m
+      message-is : unpadded (plaintextOf t c key r) ≡ some m
       message-is = ap unpadded plain-is ∙ (unfold unpadded in (unpad-complete 16 m (rw (length-padded m) (omega arith))))
 
-      by : length (cipherPart r) ≤ room → (openSealed c key r room) .answer ≡ given m
+      by : length (cipherPart t r) ≤ room → (openSealed t c key r room) .answer ≡ given m
       by h =
           unfold openSealed in
-          (outcome-answer (decide (openRows c key r room) (orEmpty (unpadded (plaintextOf c key r)))) _ room
-          ∙ passed-rows (openRows c key r room) (orEmpty (unpadded (plaintextOf c key r)))
+          (outcome-answer (decide (openRows t c key r room) (orEmpty (unpadded (plaintextOf t c key r)))) _ room
+          ∙ passed-rows (openRows t c key r room) (orEmpty (unpadded (plaintextOf t c key r)))
           (unfold openRows notPadded in
-          (is-key key (kb .size), (fine, (masked, (le-ltb room (length (cipherPart r)) h, (ap not tag-same, (ap notPadded message-is, tt)))))))
+          (is-key key (kb .size), (fine, (masked, (le-ltb room (length (cipherPart t r)) h, (ap not tag-same, (ap notPadded message-is, tt)))))))
           ∙ ap (λ (o : Option (List ℕ)). given (orEmpty o)) message-is)
 
 -- DEMAND 2 (a)
-pub demand2a : (c : Cipher) → Lawful c → Demand2a c
+pub demand2a : (t : Finish) (c : Cipher) → Lawful c → LawfulFinish t c → Demand2a t c
 unfolding seal
-demand2a c laws =
+demand2a t c laws finish =
     record {
-      gives = λ key iv message r room e. outcome-given-bytes (sealRows c key iv message room) (sealedRecord c key iv message) r room e;
-      seals = λ key iv message room nz hk hi hm hr. seal-gives c key iv message nz hk hi hm room hr;
-      long = λ key iv message hk hi. sealed-length c laws key hk iv hi message ∙ omega arith;
+      gives = λ key iv message r room e. outcome-given-bytes (sealRows t c key iv message room) (sealedRecord t c key iv message) r room e;
+      seals = λ key iv message room nz hk hi hm hr. seal-gives t c key iv message nz hk hi hm room hr;
+      long = λ key iv message hk hi. sealed-length c laws key hk iv hi t finish message ∙ omega arith;
     }
 
 -- DEMAND 2 (b)
-pub demand2b : (c : Cipher) → Lawful c → Demand2b c
-demand2b c laws =
+pub demand2b : (t : Finish) (c : Cipher) → Lawful c → LawfulFinish t c → Demand2b t c
+demand2b t c laws finish =
     record {
-      only-sealed = λ key sealed m room kb sb e. (open-sound c laws key kb sealed m room sb e, whole key sealed m room e);
-      all-sealed = λ key sealed m room kb h f. whole key sealed m room (open-complete c laws key kb sealed m room h f);
+      only-sealed = λ key sealed m room kb sb e. (open-sound t c laws key kb sealed m room sb e, whole key sealed m room e);
+      all-sealed = λ key sealed m room kb h f. whole key sealed m room (open-complete t c laws key kb finish sealed m room h f);
     }
   where
-    whole : (key sealed m : List ℕ) (room : ℕ) → (openSealed c key sealed room) .answer ≡ given m → Gives (openSealed c key sealed room) m m room
+    whole : (key sealed m : List ℕ) (room : ℕ) → (openSealed t c key sealed room) .answer ≡ given m → Gives (openSealed t c key sealed room) m m room
     whole key sealed m room e =
-        unfold openSealed in ((outcome-given-bytes (openRows c key sealed room) (orEmpty (unpadded (plaintextOf c key sealed))) m room e) .1)
+        unfold openSealed in ((outcome-given-bytes (openRows t c key sealed room) (orEmpty (unpadded (plaintextOf t c key sealed))) m room e) .1)
 
 -- what sealing gave is opened again
-pub opens-sealed : (c : Cipher) → Lawful c → OpensSealed c
-opens-sealed c laws key iv message r room lent kb ib mb e h =
-    let g = sealing-given c key iv message r room e in
-    let n : length r ≡ 16 * (length message / 16 + 1) + 32 = ap length (sym (g .1)) ∙ (demand2a c laws) .long key iv message (kb .size) (ib .long) in
-    demand2b c laws .all-sealed key r message lent kb (rw (cipher-length r (omega arith)) h)
+pub opens-sealed : (t : Finish) (c : Cipher) → Lawful c → LawfulFinish t c → OpensSealed t c
+opens-sealed t c laws finish key iv message r room lent kb ib mb e h =
+    let g = sealing-given t c key iv message r room e in
+    let n : length r ≡ 16 * (length message / 16 + 1) + overhead t = ap length (sym (g .1)) ∙ (demand2a t c laws finish) .long key iv message (kb .size) (ib .long) in
+    demand2b t c laws finish .all-sealed key r message lent kb (rw (cipher-length t r (omega arith)) h)
     (record {
       iv = iv;
       iv-block = ib;
       m-bytes = mb;
-      seals = seals-to c key iv message (g .0 .1 .1 .1 .0) (kb .size) (ib .long) (message-fits message (g .0 .1 .1 .0)) r (g .1);
+      seals = seals-to t c key iv message (g .0 .1 .1 .1 .0) (kb .size) (ib .long) (message-fits message (g .0 .1 .1 .0)) r (g .1);
     })
 
 -- DEMAND 2 (d)
-pub demand2d : (c : Cipher) → Demand2d c
+pub demand2d : (t : Finish) (c : Cipher) → Demand2d t c
 unfolding UnbrokenCheck
-demand2d c key sealed nz kl ns = (to, from)
+demand2d t c key sealed nz kl ns = (to, from)
   where
     tag : List ℕ
-    tag = unbrokenTag c ciphertext key (ivPart sealed) (blocksOf (cipherPart sealed))
+    tag = unbrokenTag t c ciphertext key (ivPart sealed) (blocksOf (cipherPart t sealed))
 
     room : ℕ
-    room = length (cipherPart sealed)
+    room = length (cipherPart t sealed)
 
     m : List ℕ
-    m = orEmpty (unpadded (plaintextOf c key sealed))
+    m = orEmpty (unpadded (plaintextOf t c key sealed))
 
-    answer-is : (openSealed c key sealed room) .answer ≡ decide (openRows c key sealed room) m
-    answer-is = unfold openSealed in (outcome-answer (decide (openRows c key sealed room) m) _ room)
+    answer-is : (openSealed t c key sealed room) .answer ≡ decide (openRows t c key sealed room) m
+    answer-is = unfold openSealed in (outcome-answer (decide (openRows t c key sealed room) m) _ room)
 
     -- rows 1, 3, 10 and 5 do not hold
-    rest : decide (openRows c key sealed room) m ≡ decide ((6, not (same tag (tagPart sealed))) ∷ (7, notPadded (unpadded (plaintextOf c key sealed))) ∷ []) m
+    rest : decide (openRows t c key sealed room) m ≡ decide ((6, not (same tag (tagPart t sealed))) ∷ (7, notPadded (unpadded (plaintextOf t c key sealed))) ∷ []) m
     rest = unfold openRows decide in rw (is-key key kl, ns, nz, le-ltb room room (omega arith))
 
-    to : tag ≡ tagPart sealed
-        → ((m : List ℕ) × ((openSealed c key sealed room) .answer ≡ given m)) ⊎ ((openSealed c key sealed room) .answer ≡ refused 7)
-    to e = by (notPadded (unpadded (plaintextOf c key sealed))) refl
+    to : tag ≡ tagPart t sealed
+        → ((m : List ℕ) × ((openSealed t c key sealed room) .answer ≡ given m)) ⊎ ((openSealed t c key sealed room) .answer ≡ refused 7)
+    to e = by (notPadded (unpadded (plaintextOf t c key sealed))) refl
       where
-        right : same tag (tagPart sealed) ≡ true
-        right = ap (λ (t : List ℕ). same tag t) (sym e) ∙ same-self tag
+        right : same tag (tagPart t sealed) ≡ true
+        right = ap (same tag) (sym e) ∙ same-self tag
 
-        by : (t : Bool) → notPadded (unpadded (plaintextOf c key sealed)) ≡ t
-            → ((m : List ℕ) × ((openSealed c key sealed room) .answer ≡ given m)) ⊎ ((openSealed c key sealed room) .answer ≡ refused 7)
+        by : (holds : Bool) → notPadded (unpadded (plaintextOf t c key sealed)) ≡ holds
+            → ((m : List ℕ) × ((openSealed t c key sealed room) .answer ≡ given m)) ⊎ ((openSealed t c key sealed room) .answer ≡ refused 7)
         by true p = inr (answer-is ∙ rest ∙ (unfold decide in rw (right, p)))
         by false p = inl (m, answer-is ∙ rest ∙ (unfold decide in rw (right, p)))
 
-    right-tag : (t : Bool) → same tag (tagPart sealed) ≡ t
-        → ((m : List ℕ) × ((openSealed c key sealed room) .answer ≡ given m)) ⊎ ((openSealed c key sealed room) .answer ≡ refused 7) → tag ≡ tagPart sealed
-    right-tag true p h = same-true tag (tagPart sealed) p
+    right-tag : (right : Bool) → same tag (tagPart t sealed) ≡ right
+        → ((m : List ℕ) × ((openSealed t c key sealed room) .answer ≡ given m)) ⊎ ((openSealed t c key sealed room) .answer ≡ refused 7) → tag ≡ tagPart t sealed
+    right-tag true p h = same-true tag (tagPart t sealed) p
     right-tag false p (inl h) =
-        let six : (openSealed c key sealed room) .answer ≡ refused 6 = answer-is ∙ rest ∙ (unfold decide in rw p) in
+        let six : (openSealed t c key sealed room) .answer ≡ refused 6 = answer-is ∙ rest ∙ (unfold decide in rw p) in
         let e : given (h .0) ≡ refused 6 = sym (h .1) ∙ six in
         absurd (let z : _≡_ {A = ℕ} 0 1 = cc in omega arith)
     right-tag false p (inr h) =
-        let six : (openSealed c key sealed room) .answer ≡ refused 6 = answer-is ∙ rest ∙ (unfold decide in rw p) in
+        let six : (openSealed t c key sealed room) .answer ≡ refused 6 = answer-is ∙ rest ∙ (unfold decide in rw p) in
         let e : _≡_ {A = Answer (List ℕ)} (refused 7) (refused 6) = sym h ∙ six in
         absurd (let z : _≡_ {A = ℕ} 7 6 = cc in omega arith)
 
-    from : ((m : List ℕ) × ((openSealed c key sealed room) .answer ≡ given m)) ⊎ ((openSealed c key sealed room) .answer ≡ refused 7) → tag ≡ tagPart sealed
-    from h = right-tag (same tag (tagPart sealed)) refl h
+    from : ((m : List ℕ) × ((openSealed t c key sealed room) .answer ≡ given m)) ⊎ ((openSealed t c key sealed room) .answer ≡ refused 7) → tag ≡ tagPart t sealed
+    from h = right-tag (same tag (tagPart t sealed)) refl h

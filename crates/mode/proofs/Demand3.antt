@@ -11,13 +11,14 @@ use lib.Seq.{split-at, set-split, take-append-seam, length-take-le}
 use lib.Dec.{leb}
 use borrow.Author.Tests.{ne-eqb, le-leb, lt-leb}
 use Rattle.blocks.specs.Bytes.{Bytes, Block, same, concat}
-use Rattle.mode.specs.Mode.{Cipher, Lawful, RunRecord, inWords, pass, unbroken, unbrokenTag, tagFrom, recordOf, blocksOf, padded, cipherPart, tagPart, UnbrokenCheck}
+use Rattle.mode.specs.Mode.{Cipher, Lawful, Finish, overhead, RunRecord, inWords, pass, unbroken, unbrokenTag, recordOf, blocksOf, padded, cipherPart, tagPart, UnbrokenCheck}
 use Rattle.mode.specs.Table.{Answer, refused, given, decide, beyond, anyBeyond, apart, none, notWhole, zeroMask, limit}
 use Rattle.mode.specs.Calls.{Kind, middle, last, blocksOfRun, unalignedRun, Outcome, outcomeBy, joinedOnto, joinedAll, joinTwo, joinList, closingTag, close, test, callsOf}
-use Rattle.mode.specs.Parallel.{Work, sealing, checking, sourceOf, ivOf, textOf, lastKind, allBlocks, Fits, Cut, Setting, WellFormed, Run, runsFrom, Segment, pending, recorded, blocksOfRuns, runsIn, recordIn, bytesIn, isRecorded, runsOf, bytesOfSegments, blocksIn, noSegment, segment, Call, runAt, joinPair, joinMany, consecutive, AllRecorded, recordsAt, Allowed, mergeBy, recordBy, headOr, firstRun, empties, start, roomOf, outcomeOfRun, runOutcome, answerOf, after, afterAll, EachCall}
+use Rattle.mode.specs.Parallel.{Work, sealing, checking, sourceOf, finishOf, ivOf, textOf, lastKind, allBlocks, Fits, Cut, Setting, WellFormed, Run, runsFrom, Segment, pending, recorded, blocksOfRuns, runsIn, recordIn, bytesIn, isRecorded, runsOf, bytesOfSegments, blocksIn, noSegment, segment, Call, runAt, joinPair, joinMany, consecutive, AllRecorded, recordsAt, Allowed, mergeBy, recordBy, headOr, firstRun, empties, start, roomOf, outcomeOfRun, runOutcome, answerOf, after, afterAll, EachCall}
 use Rattle.mode.specs.Demands.{NonzeroMask, whole, wholeTag, recordOfSegments, ciphertextOfSegment, ExpectedOfRun, ExpectedOfJoin, Expected, TestedAs, Whole, Demand3}
 use Rattle.fips197.proofs.Keys.{is-key}
 use Rattle.mode.proofs.Decisions.{outcome-gives, outcome-refuses}
+use Rattle.mode.proofs.Rows.{is-tag}
 use Rattle.mode.proofs.Laws.{AllLong, mask-there}
 use Rattle.mode.proofs.Same.{same-true, same-self}
 use Rattle.mode.proofs.Bytes.{AllBlocks, all-blocks-long, all-blocks-left, all-blocks-right, good-blocks, run-blocks}
@@ -28,26 +29,26 @@ use Rattle.mode.proofs.Segments.{blocksIn-cons, blocksIn-append, blocks
 
 -- ---- all blocks of a setting
 
-pub cipher-length : (sealed : List ℕ) → 48 ≤ length sealed → length (cipherPart sealed) ≡ length sealed - 32
+pub cipher-length : (t : Finish) (sealed : List ℕ) → overhead t ≤ length sealed → length (cipherPart t sealed) ≡ length sealed - overhead t
 unfolding cipherPart
-cipher-length sealed h = length-take-le (length sealed - 32) (drop 16 sealed) (rw (length-drop 16 sealed) (omega arith))
+cipher-length t sealed h = length-take-le (length sealed - overhead t) (drop 16 sealed) (rw (length-drop 16 sealed) (omega arith))
 
 good-work : (w : Work) → Fits w → Bytes (textOf w) → AllBlocks (allBlocks w)
 unfolding allBlocks lastKind textOf Fits blocksOfRun unalignedRun
-good-work (sealing iv message) f h = run-blocks last message h refl
-good-work (checking sealed) f h =
-    let e : length (cipherPart sealed) % 16 ≡ 0 = ap (λ (n : ℕ). n % 16) (cipher-length sealed (f .0)) ∙ omega arith in
-    good-blocks (cipherPart sealed) e h
+good-work (sealing t iv message) f h = run-blocks last message h refl
+good-work (checking t sealed) f h =
+    let e : length (cipherPart t sealed) % 16 ≡ 0 = ap (λ (n : ℕ). n % 16) (cipher-length t sealed (omega (arith, f .0))) ∙ omega arith in
+    good-blocks (cipherPart t sealed) e h
 
 in-limit : (w : Work) → Fits w → length (allBlocks w) ≤ limit
 unfolding allBlocks lastKind textOf Fits blocksOfRun
-in-limit (sealing iv message) h = rw (count-last message) (omega arith)
-in-limit (checking sealed) h = rw (count-middle (cipherPart sealed), cipher-length sealed (h .0)) (omega arith)
+in-limit (sealing t iv message) h = rw (count-last message) (omega arith)
+in-limit (checking t sealed) h = rw (count-middle (cipherPart t sealed), cipher-length t sealed (omega (arith, h .0))) (omega arith)
 
 some-block : (w : Work) → Fits w → 0 < length (allBlocks w)
 unfolding allBlocks lastKind textOf Fits blocksOfRun
-some-block (sealing iv message) h = rw (count-last message) (omega arith)
-some-block (checking sealed) h = rw (count-middle (cipherPart sealed), cipher-length sealed (h .0)) (omega arith)
+some-block (sealing t iv message) h = rw (count-last message) (omega arith)
+some-block (checking t sealed) h = rw (count-middle (cipherPart t sealed), cipher-length t sealed (omega (arith, h .0))) (omega arith)
 
 -- ---- the rack at the start
 
@@ -76,13 +77,13 @@ start-blocks kind n (p ∷ q ∷ ps) h =
 
 suits-last : (w : Work) → Suits w (lastKind w)
 unfolding Suits lastKind
-suits-last (sealing iv message) = tt
-suits-last (checking sealed) = refl
+suits-last (sealing t iv message) = tt
+suits-last (checking t sealed) = refl
 
 suits-middle : (w : Work) → Suits w middle
 unfolding Suits
-suits-middle (sealing iv message) = tt
-suits-middle (checking sealed) = refl
+suits-middle (sealing t iv message) = tt
+suits-middle (checking t sealed) = refl
 
 start-sound : (c : Cipher) (key : List ℕ) (w : Work) (kind : Kind) → Suits w kind → (before : List (List ℕ)) (n : ℕ) (ps : List (List ℕ))
     → n ≡ length before → Cut kind ps → Sound c key w before (empties (runsFrom kind n ps))
@@ -444,10 +445,10 @@ module _ (c : Cipher) (laws : Lawful c) (s : Setting) (wf : WellFormed s) where
       by before (recorded rs r bytes) e h = unfold recordIn bytesIn runsIn in h
 
   -- the whole record closes into the unbroken tag
-  closing : closingTag inWords c key (ivOf w) (recordFor c key w [] (allBlocks w)) ≡ wholeTag c s
+  closing : closingTag inWords (finishOf w) c key (ivOf w) (recordFor c key w [] (allBlocks w)) ≡ wholeTag c s
   unfolding closingTag wholeTag unbrokenTag recordOf unbroken pass
   closing =
-      ap₂ (tagFrom c key) (record-bytes c laws (sourceOf w) key (wf .key-is) (ivOf w) iv-block [] (allBlocks w) all-good)
+      ap₂ (finishOf w .tagFrom c key) (record-bytes c laws (sourceOf w) key (wf .key-is) (ivOf w) iv-block [] (allBlocks w) all-good)
       (sym (unfold unbroken in (mask-there c laws (sourceOf w) key (wf .key-is .size) (ivOf w) (iv-long w (wf .fits)) (allBlocks w))))
 
   not-part : notWhole inWords (recordFor c key w [] (allBlocks w)) ≡ false
@@ -458,35 +459,35 @@ module _ (c : Cipher) (laws : Lawful c) (s : Setting) (wf : WellFormed s) where
   unfolding recordOf
   not-beyond = within 0 (length (allBlocks w)) (let h : length (allBlocks w) ≤ limit = in-limit w (wf .fits) in omega arith)
 
-  closed : NonzeroMask c key (ivOf w) → close inWords c key (ivOf w) (recordFor c key w [] (allBlocks w)) ≡ given (wholeTag c s)
+  closed : NonzeroMask c key (ivOf w) → close inWords (finishOf w) c key (ivOf w) (recordFor c key w [] (allBlocks w)) ≡ given (wholeTag c s)
   unfolding close decide
   closed nz =
       rw (is-key key (wf .key-is .size), is16 (ivOf w) (iv-long w (wf .fits)), not-beyond, not-part, nz) (ap (λ (t : List ℕ). given t) closing)
 
-  -- a tag of 16 bytes passes exactly when it is the unbroken one
-  tested : NonzeroMask c key (ivOf w) → (tag : List ℕ) → length tag ≡ 16 → (test inWords c key (ivOf w) (recordFor c key w [] (allBlocks w)) tag ≡ given tt) ↔ (wholeTag c s ≡ tag)
+  -- a tag of the finish's length passes exactly when it is the unbroken one
+  tested : NonzeroMask c key (ivOf w) → (tag : List ℕ) → length tag ≡ finishOf w .tagLength → (test inWords (finishOf w) c key (ivOf w) (recordFor c key w [] (allBlocks w)) tag ≡ given tt) ↔ (wholeTag c s ≡ tag)
   tested nz tag h = (
-    λ e. sym closing ∙ same-true (closingTag inWords c key (ivOf w) (recordFor c key w [] (allBlocks w))) tag ((last-row (same (closingTag inWords c key (ivOf w) (recordFor c key w [] (allBlocks w))) tag) 6) .0 (sym rows ∙ e)),
-    λ e. rows ∙ (last-row (same (closingTag inWords c key (ivOf w) (recordFor c key w [] (allBlocks w))) tag) 6) .1
-        (subst (λ (t : List ℕ). same (closingTag inWords c key (ivOf w) (recordFor c key w [] (allBlocks w))) t ≡ true) (closing ∙ e) (same-self (closingTag inWords c key (ivOf w) (recordFor c key w [] (allBlocks w))))),
+    λ e. sym closing ∙ same-true (closingTag inWords (finishOf w) c key (ivOf w) (recordFor c key w [] (allBlocks w))) tag ((last-row (same (closingTag inWords (finishOf w) c key (ivOf w) (recordFor c key w [] (allBlocks w))) tag) 6) .0 (sym rows ∙ e)),
+    λ e. rows ∙ (last-row (same (closingTag inWords (finishOf w) c key (ivOf w) (recordFor c key w [] (allBlocks w))) tag) 6) .1
+        (subst (λ (t : List ℕ). same (closingTag inWords (finishOf w) c key (ivOf w) (recordFor c key w [] (allBlocks w))) t ≡ true) (closing ∙ e) (same-self (closingTag inWords (finishOf w) c key (ivOf w) (recordFor c key w [] (allBlocks w))))),
   )
     where
-      rows : test inWords c key (ivOf w) (recordFor c key w [] (allBlocks w)) tag
-          ≡ decide ((6, not (same (closingTag inWords c key (ivOf w) (recordFor c key w [] (allBlocks w))) tag)) ∷ []) tt
+      rows : test inWords (finishOf w) c key (ivOf w) (recordFor c key w [] (allBlocks w)) tag
+          ≡ decide ((6, not (same (closingTag inWords (finishOf w) c key (ivOf w) (recordFor c key w [] (allBlocks w))) tag)) ∷ []) tt
       rows =
           unfold test decide in
-          rw (is-key key (wf .key-is .size), is16 (ivOf w) (iv-long w (wf .fits)), is16 tag h, not-beyond, not-part, nz)
+          rw (is-key key (wf .key-is .size), is16 (ivOf w) (iv-long w (wf .fits)), is-tag (finishOf w) tag h, not-beyond, not-part, nz)
 
-  tag-long : (sealed : List ℕ) → Fits (checking sealed) → length (tagPart sealed) ≡ 16
+  tag-long : (t : Finish) (sealed : List ℕ) → Fits (checking t sealed) → length (tagPart t sealed) ≡ t .tagLength
   unfolding Fits tagPart
-  tag-long sealed h = length-drop (length sealed - 16) sealed ∙ omega arith
+  tag-long t sealed h = length-drop (length sealed - t .tagLength) sealed ∙ omega (arith, h .0)
 
   tested-as : (v : Work) → Fits v → (r : RunRecord)
-      → ((tag : List ℕ) → length tag ≡ 16 → (test inWords c key (ivOf v) r tag ≡ given tt) ↔ (unbrokenTag c (sourceOf v) key (ivOf v) (allBlocks v) ≡ tag))
+      → ((tag : List ℕ) → length tag ≡ finishOf v .tagLength → (test inWords (finishOf v) c key (ivOf v) r tag ≡ given tt) ↔ (unbrokenTag (finishOf v) c (sourceOf v) key (ivOf v) (allBlocks v) ≡ tag))
       → TestedAs c (callsOf c) key v r
-  unfolding TestedAs ivOf sourceOf allBlocks lastKind textOf blocksOfRun UnbrokenCheck
-  tested-as (sealing iv message) fit r h = h
-  tested-as (checking sealed) fit r h = h (tagPart sealed) (tag-long sealed fit)
+  unfolding TestedAs finishOf ivOf sourceOf allBlocks lastKind textOf blocksOfRun UnbrokenCheck
+  tested-as (sealing t iv message) fit r h = h
+  tested-as (checking t sealed) fit r h = h (tagPart t sealed) (tag-long t sealed fit)
 
   -- a single record is the whole one
   single-whole : NonzeroMask c key (ivOf w) → (rs : List Run) (r : RunRecord) (bytes : List ℕ) → Inv c s (recorded rs r bytes ∷ []) → Whole c (callsOf c) s r bytes

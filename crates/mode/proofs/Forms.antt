@@ -11,8 +11,8 @@ use Rattle.blocks.proofs.Bridge.{block-bytesOf, proper-wordsOf, bytes-words, wo
 use Rattle.gf128.specs.Gf128.{jump}
 use Rattle.gf128.proofs.TimesX.{block-jump}
 use Rattle.fips197.specs.Aes.{Key}
-use Rattle.mode.specs.Mode.{Cipher, Lawful, Source, plaintext, ciphertext, Form, inWords, inBytes, zeroBlock, startMask, tagFrom}
-use Rattle.mode.specs.Table.{Answer, refused, given, decide, NoneHolds, notKey, not16, beyond, anyBeyond, apart, none, notWhole, zeroMask}
+use Rattle.mode.specs.Mode.{Cipher, Lawful, Source, plaintext, ciphertext, Form, inWords, inBytes, zeroBlock, startMask, Finish}
+use Rattle.mode.specs.Table.{Answer, refused, given, decide, NoneHolds, notKey, notTag, not16, beyond, anyBeyond, apart, none, notWhole, zeroMask}
 use Rattle.mode.specs.Calls.{outcomeBy, unalignedRun, Kind, middle, blocksOfRun, joined, joinedOnto, joinedAll, joinTwo, joinTwoRows, joinList, joinListRows, passFrom, runRecord, sealRun, sealRunRows, checkRun, checkRunRows, closingTag, close, test}
 use Rattle.mode.specs.Demands.{Formed, EachFormed, inForm, mapAnswer, mapOutcome, SameIn, WordsAsBytes}
 use Rattle.fips197.proofs.Keys.{has-key}
@@ -149,25 +149,25 @@ module _ (f g : Form) (rf : Reads f) (rg : Reads g) where
 
   -- ---- tags
 
-  module _ (c : Cipher) (key iv : List ℕ) (r : f .Record) (h : Formed f r) where
-    tag-same : closingTag g c key iv (to r) ≡ closingTag f c key iv r
+  module _ (c : Cipher) (t : Finish) (key iv : List ℕ) (r : f .Record) (h : Formed f r) where
+    tag-same : closingTag g t c key iv (to r) ≡ closingTag f t c key iv r
     unfolding closingTag
-    tag-same = ap₂ (λ (p : List ℕ) (n : ℕ). tagFrom c key p (jump n (startMask c key iv))) (block-same r h) (count-same r)
+    tag-same = ap₂ (λ (p : List ℕ) (n : ℕ). t .tagFrom c key p (jump n (startMask c key iv))) (block-same r h) (count-same r)
 
-    close-same : close g c key iv (to r) ≡ close f c key iv r
+    close-same : close g t c key iv (to r) ≡ close f t c key iv r
     unfolding close
     close-same = λ i. decide (closeRowsBy (beyond-same r i) (part-same r i)) (tag-same i)
       where
         closeRowsBy : Bool → Bool → List (ℕ × Bool)
         closeRowsBy four nine = (1, notKey key) ∷ (2, not16 iv) ∷ (4, four) ∷ (9, nine) ∷ (10, zeroMask c key iv) ∷ []
 
-    test-same : (tag : List ℕ) → test g c key iv (to r) tag ≡ test f c key iv r tag
+    test-same : (tag : List ℕ) → test g t c key iv (to r) tag ≡ test f t c key iv r tag
     unfolding test
     test-same tag = λ i. decide (testRowsBy (beyond-same r i) (part-same r i) (tag-same i)) tt
       where
         testRowsBy : Bool → Bool → List ℕ → List (ℕ × Bool)
-        testRowsBy four nine t =
-            (1, notKey key) ∷ (2, not16 iv) ∷ (3, not16 tag) ∷ (4, four) ∷ (9, nine) ∷ (10, zeroMask c key iv) ∷ (6, not (same t tag)) ∷ []
+        testRowsBy four nine closed =
+            (1, notKey key) ∷ (2, not16 iv) ∷ (3, notTag t tag) ∷ (4, four) ∷ (9, nine) ∷ (10, zeroMask c key iv) ∷ (6, not (same closed tag)) ∷ []
 
   -- ---- runs
 
@@ -199,8 +199,8 @@ module _ (f g : Form) (rf : Reads f) (rg : Reads g) where
         of-check-run = λ key iv first bytes bk bv hb. check-same c laws key iv first bk bv bytes hb;
         of-join = join-same;
         of-join-list = list-same;
-        of-close = λ key iv r h. close-same c key iv r h;
-        of-test = λ key iv r tag h. test-same c key iv r h tag;
+        of-close = λ t key iv r h. close-same c t key iv r h;
+        of-test = λ t key iv r tag h. test-same c t key iv r h tag;
       }
 
 -- ---- words and bytes

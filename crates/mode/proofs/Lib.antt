@@ -9,6 +9,7 @@ pub mod Passed
 pub mod Decisions
 pub mod Same
 pub mod Laws
+pub mod Finishes
 pub mod Blocks
 pub mod Bytes
 pub mod Halves

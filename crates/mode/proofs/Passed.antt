@@ -8,7 +8,8 @@ use lib.Dec.{eqb, ltb}
 use lib.ListN.{length}
 use borrow.Author.Tests.{eqb-true, ltb-false, not-false}
 use Rattle.fips197.specs.Aes.{KeyLength}
-use Rattle.mode.specs.Table.{firstRow, limit, notKey, not16, beyond}
+use Rattle.mode.specs.Mode.{Finish}
+use Rattle.mode.specs.Table.{firstRow, limit, notKey, not16, notTag, beyond}
 use Rattle.fips197.proofs.Keys.{has-key}
 
 -- the head of rows that do not hold, and the rows after it
@@ -39,9 +40,13 @@ unfolding beyond
 within-limit first count rows e = ltb-false limit (first + count) (head-passed 3 (ltb limit (first + count)) rows e)
 
 -- 3 of a tag does not hold
-pub tag-16 : (key iv tag : List ℕ) (rows : List (ℕ × Bool)) → firstRow ((1, notKey key) ∷ (2, not16 iv) ∷ (3, not16 tag) ∷ rows) ≡ 0 → length tag ≡ 16
-tag-16 key iv tag rows e =
-    has-16 tag (head-passed 2 (not16 tag) rows (tail-passed 1 (not16 iv) ((3, not16 tag) ∷ rows) (tail-passed 0 (notKey key) ((2, not16 iv) ∷ (3, not16 tag) ∷ rows) e)))
+pub has-tag : (t : Finish) (tag : List ℕ) → notTag t tag ≡ false → length tag ≡ t .tagLength
+unfolding notTag
+has-tag t tag e = eqb-true (length tag) (t .tagLength) (not-false (eqb (length tag) (t .tagLength)) e)
+
+pub tag-passed : (t : Finish) (key iv tag : List ℕ) (rows : List (ℕ × Bool)) → firstRow ((1, notKey key) ∷ (2, not16 iv) ∷ (3, notTag t tag) ∷ rows) ≡ 0 → length tag ≡ t .tagLength
+tag-passed t key iv tag rows e =
+    has-tag t tag (head-passed 2 (notTag t tag) rows (tail-passed 1 (not16 iv) ((3, notTag t tag) ∷ rows) (tail-passed 0 (notKey key) ((2, not16 iv) ∷ (3, notTag t tag) ∷ rows) e)))
 
 -- after the key, the IV and a length: 4 does not hold
 pub run-within : (key iv : List ℕ) (b : Bool) (first count : ℕ) (rows : List (ℕ × Bool))

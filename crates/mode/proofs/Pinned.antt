@@ -18,8 +18,8 @@ use Rattle.blocks.proofs.Sign.{abs-neg}
 use Rattle.fips197.specs.KeyExpansion.{roundKeys}
 use Rattle.fips197.specs.Cipher.{cipher, invCipher, afterRound}
 use Rattle.fips197.specs.Aes.{KeyLength, short, long, Key}
-use Rattle.mode.specs.Mode.{Cipher, plaintext, ciphertext, RunRecord, inWords, ByteRecord, inBytes, zeroBlock, keyBlock, encrypt, startMask, blocksOf, ivPart, cipherPart, tagPart, sealedRecord, unbrokenTag, UnbrokenCheck}
-use Rattle.mode.specs.Table.{Answer, refused, given, decide, tableOrder, inOrder, notKey, not16, unaligned, tooLong, notSealed, beyond, tooFar, apart, notWhole, zeroMask, tooShort, limit, longestMessage}
+use Rattle.mode.specs.Mode.{Cipher, Finish, overhead, plaintext, ciphertext, RunRecord, inWords, ByteRecord, inBytes, zeroBlock, keyBlock, encrypt, startMask, blocksOf, ivPart, cipherPart, tagPart, sealedRecord, unbrokenTag, UnbrokenCheck}
+use Rattle.mode.specs.Table.{Answer, refused, given, decide, tableOrder, inOrder, notKey, not16, unaligned, tooLong, notTag, notSealed, beyond, tooFar, apart, notWhole, zeroMask, tooShort, limit, longestMessage}
 use Rattle.mode.specs.Calls.{Outcome, Kind, middle, last, outcomeBy, blocksOfRun, unalignedRun, seal, openSealed, openRows, unpadded, notPadded, orEmpty, plaintextOf, passFrom, runRecord, sealRun, checkRun, joinTwo, closingTag, close, test, Calls, callsOf}
 use Rattle.mode.specs.Parallel.{sealing, checking, ivOf, lastKind, textOf, Fits, Cut, Setting, WellFormed, Segment, isRecorded, segment, Call, runAt, joinPair, joinMany, consecutive, AllRecorded, recordsAt, Allowed, start, roomOf, runOutcome, afterAll, EachCall}
 use Rattle.mode.specs.Demands.{IsAes, Aes128And256, KeyInStepOne, Gives, Refuses, InTable, NonzeroMask, Demand2a, Demand2d, Agrees, Demand3, ZeroMask, zeroMaskIv, without, AsBefore, Formed, inForm, mapAnswer, WordsAsBytes, RunRefused, ZeroMaskRack, JumpsTo, SignedJump}
@@ -35,11 +35,11 @@ use Rattle.mode.proofs.Demand2.{sealing-given, message-fits, sealed-len
 -- ---- what may be cut
 
 -- every message that the call seals, under its key and IV, in any cut
-pub message-cut : (c : Cipher) (key iv message r : List ℕ) (room : ℕ) → (seal c key iv message room) .answer ≡ given r
-    → Bytes key → Bytes iv → Bytes message → (pieces : List (List ℕ)) → Cut last pieces → concat pieces ≡ message → WellFormed (record { key = key; work = sealing iv message; pieces = pieces })
+pub message-cut : (t : Finish) (c : Cipher) (key iv message r : List ℕ) (room : ℕ) → (seal t c key iv message room) .answer ≡ given r
+    → Bytes key → Bytes iv → Bytes message → (pieces : List (List ℕ)) → Cut last pieces → concat pieces ≡ message → WellFormed (record { key = key; work = sealing t iv message; pieces = pieces })
 unfolding Fits lastKind textOf
-message-cut c key iv message r room e bk bi bm pieces h p =
-    let rows = (sealing-given c key iv message r room e) .0 in
+message-cut t c key iv message r room e bk bi bm pieces h p =
+    let rows = (sealing-given t c key iv message r room e) .0 in
     record {
       key-is = record { size = has-key key (rows .0); bytes = bk };
       iv-bytes = (unfold ivOf in bi);
@@ -50,15 +50,15 @@ message-cut c key iv message r room e bk bi bm pieces h p =
     }
 
 -- every record of a length that opening takes, genuine or not, in any cut of its ciphertext
-pub record-cut : (key sealed : List ℕ) → Key key → notSealed sealed ≡ false → Bytes sealed
-    → (pieces : List (List ℕ)) → Cut middle pieces → concat pieces ≡ cipherPart sealed → WellFormed (record { key = key; work = checking sealed; pieces = pieces })
+pub record-cut : (t : Finish) (key sealed : List ℕ) → Key key → notSealed t sealed ≡ false → Bytes sealed
+    → (pieces : List (List ℕ)) → Cut middle pieces → concat pieces ≡ cipherPart t sealed → WellFormed (record { key = key; work = checking t sealed; pieces = pieces })
 unfolding Fits lastKind textOf
-record-cut key sealed hk hs bs pieces h p =
+record-cut t key sealed hk hs bs pieces h p =
     record {
       key-is = hk;
       iv-bytes = (unfold ivOf ivPart in (bytes-take 16 sealed bs));
-      text-bytes = (unfold cipherPart in (bytes-take (length sealed - 32) (drop 16 sealed) (bytes-drop 16 sealed bs)));
-      fits = sealed-lengths sealed hs;
+      text-bytes = (unfold cipherPart in (bytes-take (length sealed - overhead t) (drop 16 sealed) (bytes-drop 16 sealed bs)));
+      fits = sealed-lengths t sealed hs;
       cut = h;
       pieces-are = p;
     }
@@ -116,17 +116,17 @@ every-other-pair c z key iv hk hi h = by (zeroMask c key iv) refl
     by false e = e
 
 -- the three that leave it out ask no more of a pair
-pub sealed-else : (c : Cipher) → Demand2a c → (key iv message : List ℕ) (room : ℕ) → zeroMask c key iv ≡ false → KeyLength key → length iv ≡ 16
-    → length message ≤ longestMessage → length (sealedRecord c key iv message) ≤ room
-    → Gives (seal c key iv message room) (sealedRecord c key iv message) (sealedRecord c key iv message) room
-sealed-else c d = d .seals
+pub sealed-else : (t : Finish) (c : Cipher) → Demand2a t c → (key iv message : List ℕ) (room : ℕ) → zeroMask c key iv ≡ false → KeyLength key → length iv ≡ 16
+    → length message ≤ longestMessage → length (sealedRecord t c key iv message) ≤ room
+    → Gives (seal t c key iv message room) (sealedRecord t c key iv message) (sealedRecord t c key iv message) room
+sealed-else t c d = d .seals
 
-pub checked-else : (c : Cipher) → Demand2d c → (key sealed : List ℕ) → zeroMask c key (ivPart sealed) ≡ false → KeyLength key → notSealed sealed ≡ false
-    → UnbrokenCheck c key sealed → (openSealed c key sealed (length (cipherPart sealed))) .answer ≡ refused 6 → ⊥
-checked-else c d key sealed z hk hs u six = by ((d key sealed z hk hs) .0 u)
+pub checked-else : (t : Finish) (c : Cipher) → Demand2d t c → (key sealed : List ℕ) → zeroMask c key (ivPart sealed) ≡ false → KeyLength key → notSealed t sealed ≡ false
+    → UnbrokenCheck t c key sealed → (openSealed t c key sealed (length (cipherPart t sealed))) .answer ≡ refused 6 → ⊥
+checked-else t c d key sealed z hk hs u six = by ((d key sealed z hk hs) .0 u)
   where
     answer : Answer (List ℕ)
-    answer = (openSealed c key sealed (length (cipherPart sealed))) .answer
+    answer = (openSealed t c key sealed (length (cipherPart t sealed))) .answer
 
     by : ((m : List ℕ) × (answer ≡ given m)) ⊎ (answer ≡ refused 7) → ⊥
     by (inl g) = let e : refused 6 ≡ given (g .0) = sym six ∙ g .1 in let z : _≡_ {A = ℕ} 0 1 = cc in omega arith
@@ -147,11 +147,11 @@ module _ (c : Cipher) (z : ZeroMask c) (key : List ℕ) (hk : Key key) (zeroed :
   zero-mask : zeroMask c key iv₀ ≡ true
   zero-mask = z .one-iv key hk zeroed .1
 
-  pub seal-ten : (message : List ℕ) (room : ℕ) → length message ≤ longestMessage → Refuses (seal c key iv₀ message room) 10 room
-  seal-ten message room h = z .of-seal key iv₀ message room zero-mask (hk .size) iv₀-long h
+  pub seal-ten : (t : Finish) (message : List ℕ) (room : ℕ) → length message ≤ longestMessage → Refuses (seal t c key iv₀ message room) 10 room
+  seal-ten t message room h = z .of-seal t key iv₀ message room zero-mask (hk .size) iv₀-long h
 
-  pub open-ten : (sealed : List ℕ) (room : ℕ) → notSealed sealed ≡ false → ivPart sealed ≡ iv₀ → Refuses (openSealed c key sealed room) 10 room
-  open-ten sealed room h e = z .of-open key sealed room (rw e zero-mask) (hk .size) h
+  pub open-ten : (t : Finish) (sealed : List ℕ) (room : ℕ) → notSealed t sealed ≡ false → ivPart sealed ≡ iv₀ → Refuses (openSealed t c key sealed room) 10 room
+  open-ten t sealed room h e = z .of-open t key sealed room (rw e zero-mask) (hk .size) h
 
   pub seal-run-ten : (first : ℕ) (kind : Kind) (bytes : List ℕ) (room : ℕ) → unalignedRun kind bytes ≡ false → first + length (blocksOfRun kind bytes) ≤ limit
       → Refuses (sealRun inWords c key iv₀ first kind bytes room) 10 room
@@ -165,12 +165,12 @@ module _ (c : Cipher) (z : ZeroMask c) (key : List ℕ) (hk : Key key) (zeroed :
     z .of-check-run key iv₀ first [] zero-mask (hk .size) iv₀-long refl (omega arith),
   )
 
-  pub close-ten : (r : RunRecord) (tag : List ℕ) → r .first ≡ 0 → 0 < r .count → r .count ≤ limit → length tag ≡ 16
-      → (close inWords c key iv₀ r ≡ refused 10) × (test inWords c key iv₀ r tag ≡ refused 10)
-  close-ten r tag start some h t =
+  pub close-ten : (t : Finish) (r : RunRecord) (tag : List ℕ) → r .first ≡ 0 → 0 < r .count → r .count ≤ limit → length tag ≡ t .tagLength
+      → (close inWords t c key iv₀ r ≡ refused 10) × (test inWords t c key iv₀ r tag ≡ refused 10)
+  close-ten t r tag start some h size =
       let w = is-whole r start (λ e. omega arith) in (
-        z .of-close key iv₀ r zero-mask (hk .size) iv₀-long (omega arith) w,
-        z .of-test key iv₀ r tag zero-mask (hk .size) iv₀-long t (omega arith) w,
+        z .of-close t key iv₀ r zero-mask (hk .size) iv₀-long (omega arith) w,
+        z .of-test t key iv₀ r tag zero-mask (hk .size) iv₀-long size (omega arith) w,
       )
 
 -- such keys are the zero key of 16 bytes, and the keys of 32 bytes whose first 16 are zero, whatever the last 16 are
@@ -198,28 +198,28 @@ unfolding EachCall Allowed RunRefused
 run-ten c rack s z wf i room h e = (rack s z wf (runAt i room ∷ []) ((h, e), tt)) .0 .0
 
 -- under every other pair each call comes to what it came to before, by its rows as they stood
-module _ (c : Cipher) (b : AsBefore c) (key iv : List ℕ) where
+module _ (t : Finish) (c : Cipher) (b : AsBefore c) (key iv : List ℕ) where
   pub seal-before : (message : List ℕ) (room : ℕ) → zeroMask c key iv ≡ false
-      → let s = sealedRecord c key iv message in
-      seal c key iv message room
+      → let s = sealedRecord t c key iv message in
+      seal t c key iv message room
       ≡ outcomeBy (decide ((1, notKey key) ∷ (2, not16 iv) ∷ (3, tooLong message) ∷ (5, tooShort room (length s)) ∷ []) s) s room
   unfolding without
-  seal-before message room z = b .of-seal key iv message room z
+  seal-before message room z = b .of-seal t key iv message room z
 
   pub open-before : (sealed : List ℕ) (room : ℕ) → zeroMask c key (ivPart sealed) ≡ false
-      → let message = orEmpty (unpadded (plaintextOf c key sealed)) in
-      openSealed c key sealed room
+      → let message = orEmpty (unpadded (plaintextOf t c key sealed)) in
+      openSealed t c key sealed room
       ≡ outcomeBy
       (decide
       ((1, notKey key)
-      ∷ (3, notSealed sealed)
-      ∷ (5, tooShort room (length (cipherPart sealed)))
-      ∷ (6, not (same (unbrokenTag c ciphertext key (ivPart sealed) (blocksOf (cipherPart sealed))) (tagPart sealed)))
-      ∷ (7, notPadded (unpadded (plaintextOf c key sealed)))
+      ∷ (3, notSealed t sealed)
+      ∷ (5, tooShort room (length (cipherPart t sealed)))
+      ∷ (6, not (same (unbrokenTag t c ciphertext key (ivPart sealed) (blocksOf (cipherPart t sealed))) (tagPart t sealed)))
+      ∷ (7, notPadded (unpadded (plaintextOf t c key sealed)))
       ∷ [])
       message) message room
   unfolding without openRows
-  open-before sealed room z = b .of-open key sealed room z
+  open-before sealed room z = b .of-open t key sealed room z
 
   pub seal-run-before : (first : ℕ) (kind : Kind) (bytes : List ℕ) (room : ℕ) → zeroMask c key iv ≡ false
       → let blocks = blocksOfRun kind bytes in
@@ -244,24 +244,24 @@ module _ (c : Cipher) (b : AsBefore c) (key iv : List ℕ) where
   check-run-before first bytes z = b .of-check-run key iv first bytes z
 
   pub close-before : (r : RunRecord) → zeroMask c key iv ≡ false
-      → close inWords c key iv r
-      ≡ decide ((1, notKey key) ∷ (2, not16 iv) ∷ (4, beyond (r .first) (r .count)) ∷ (9, notWhole inWords r) ∷ []) (closingTag inWords c key iv r)
+      → close inWords t c key iv r
+      ≡ decide ((1, notKey key) ∷ (2, not16 iv) ∷ (4, beyond (r .first) (r .count)) ∷ (9, notWhole inWords r) ∷ []) (closingTag inWords t c key iv r)
   unfolding without
-  close-before r z = b .of-close key iv r z
+  close-before r z = b .of-close t key iv r z
 
   pub test-before : (r : RunRecord) (tag : List ℕ) → zeroMask c key iv ≡ false
-      → test inWords c key iv r tag
+      → test inWords t c key iv r tag
       ≡ decide
       ((1, notKey key)
       ∷ (2, not16 iv)
-      ∷ (3, not16 tag)
+      ∷ (3, notTag t tag)
       ∷ (4, beyond (r .first) (r .count))
       ∷ (9, notWhole inWords r)
-      ∷ (6, not (same (closingTag inWords c key iv r) tag))
+      ∷ (6, not (same (closingTag inWords t c key iv r) tag))
       ∷ [])
       tt
   unfolding without
-  test-before r tag z = b .of-test key iv r tag z
+  test-before r tag z = b .of-test t key iv r tag z
 
 -- ---- the cipher, and what a key lends to step 1
 
@@ -410,8 +410,8 @@ module _ (c : Cipher) (w : WordsAsBytes c) where
   joined-as-in-bytes l r hl hr =
       sym (ap₂ (joinTwo inWords) (made l hl) (made r hr)) ∙ w .in-words .of-join (inForm inWords inBytes l) (inForm inWords inBytes r) (held l hl) (held r hr)
 
-  pub closed-as-in-bytes : (key iv : List ℕ) (r : RunRecord) → Proper (r .preauthenticator) → close inWords c key iv r ≡ close inBytes c key iv (inForm inWords inBytes r)
-  closed-as-in-bytes key iv r h = sym (ap (close inWords c key iv) (made r h)) ∙ w .in-words .of-close key iv (inForm inWords inBytes r) (held r h)
+  pub closed-as-in-bytes : (t : Finish) (key iv : List ℕ) (r : RunRecord) → Proper (r .preauthenticator) → close inWords t c key iv r ≡ close inBytes t c key iv (inForm inWords inBytes r)
+  closed-as-in-bytes t key iv r h = sym (ap (close inWords t c key iv) (made r h)) ∙ w .in-words .of-close t key iv (inForm inWords inBytes r) (held r h)
 
   -- two different pairs of words have different bytes, and two different blocks different words
   pub words-apart : (v x : Words) → Proper v → Proper x → bytesOf v ≡ bytesOf x → v ≡ x

@@ -12,7 +12,7 @@ use Rattle.blocks.specs.Bytes.{xorBytes, same, concat}
 use Rattle.blocks.specs.Words.{bytesOf, wordsOf}
 use Rattle.blocks.specs.declared.words.Words.{Words}
 use Rattle.gf128.specs.Gf128.{jump}
-use Rattle.mode.specs.Mode.{plaintext, ciphertext, RunRecord, inWords, zeroBlock, keyBlock, blocksOf, encrypt, startMask, pass, tagFrom, UnbrokenCheck}
+use Rattle.mode.specs.Mode.{plaintext, ciphertext, RunRecord, inWords, zeroBlock, keyBlock, blocksOf, encrypt, startMask, pass, Finish, byCipher, UnbrokenCheck}
 use Rattle.mode.specs.Table.{Answer, refused, given, decide, not16, anyBeyond, apart, none}
 use Rattle.mode.specs.Calls.{Kind, middle, last, blocksOfRun, Outcome, outcomeBy, joined, joinedAll, blank, joinTwo, joinTwoRows, joinList, joinListRows, passFrom, runRecord, sealRun, sealRunRows, checkRun, checkRunRows, close, closeRows, test, Calls}
 use Rattle.mode.specs.Parallel.{Segment, recorded, Call, runAt, joinPair, joinMany, Allowed, recordBy, start, afterAll}
@@ -65,11 +65,11 @@ module _ (m : Calls) (d : Demand3 toy m) where
   one-whole = one 16 .single _ oneRecord oneText one-left
 
   -- closing it gives this tag, and no other tag passes
-  close-forced : m .closes aKey anIv oneRecord ≡ given oneTag
+  close-forced : m .closes byCipher aKey anIv oneRecord ≡ given oneTag
   unfolding computed
   close-forced = one-whole .closes-whole
 
-  test-forced : (tag : List ℕ) → length tag ≡ 16 → (m .tests aKey anIv oneRecord tag ≡ given tt) ↔ (oneTag ≡ tag)
+  test-forced : (tag : List ℕ) → length tag ≡ 16 → (m .tests byCipher aKey anIv oneRecord tag ≡ given tt) ↔ (oneTag ≡ tag)
   unfolding computed
   test-forced = one-whole .tests-whole
 
@@ -105,7 +105,7 @@ module _ (m : Calls) (d : Demand3 toy m) (byte : ℕ) where
   checked-left = ap (λ (a : Answer RunRecord). recordBy ((outcomeBy a [] 0) .answer) (outcomeBy a [] 0) (start (oneChecked byte)) 0) check-forced-whole
 
   -- the record's tag passes exactly where it is the one that all its ciphertext gives
-  checked-test-forced : (m .tests aKey anIv oneRecord (replicate 16 byte) ≡ given tt) ↔ (oneTag ≡ replicate 16 byte)
+  checked-test-forced : (m .tests byCipher aKey anIv oneRecord (replicate 16 byte) ≡ given tt) ↔ (oneTag ≡ replicate 16 byte)
   unfolding computed UnbrokenCheck
   checked-test-forced = checked-one .single _ oneRecord [] checked-left .tests-whole
 
@@ -130,7 +130,7 @@ rack =
 
 -- our calls, but for the joins
 abbrev joiningBy : (RunRecord → RunRecord → Answer RunRecord) → (List RunRecord → Answer RunRecord) → Calls
-joiningBy two many = record { seals-run = sealRun inWords toy; checks-run = checkRun inWords toy; joins-two = two; joins-list = many; closes = close inWords toy; tests = test inWords toy }
+joiningBy two many = record { seals-run = sealRun inWords toy; checks-run = checkRun inWords toy; joins-two = two; joins-list = many; closes = λ t. close inWords t toy; tests = λ t. test inWords t toy }
 
 module _ (two : RunRecord → RunRecord → Answer RunRecord) (many : List RunRecord → Answer RunRecord) (d : Demand3 toy (joiningBy two many)) where
   expected : (call : Call) → Allowed rack call → Expected toy (joiningBy two many) threePieces rack call
@@ -190,7 +190,7 @@ same-answer x y e = cc
 
 -- our calls, but for the sealing of a run
 abbrev sealingBy : (List ℕ → List ℕ → ℕ → Kind → List ℕ → ℕ → Outcome RunRecord) → Calls
-sealingBy seals = record { seals-run = seals; checks-run = checkRun inWords toy; joins-two = joinTwo inWords; joins-list = joinList inWords; closes = close inWords toy; tests = test inWords toy }
+sealingBy seals = record { seals-run = seals; checks-run = checkRun inWords toy; joins-two = joinTwo inWords; joins-list = joinList inWords; closes = λ t. close inWords t toy; tests = λ t. test inWords t toy }
 
 -- a sealer that refuses every run
 pub refuses-runs-refuted : Demand3 toy (sealingBy (λ key iv first kind bytes room. outcomeBy (refused 3) [] room)) → ⊥
@@ -295,7 +295,7 @@ pub wrongHalf : List ℕ → List ℕ → ℕ → List ℕ → Answer RunRecord
 wrongHalf key iv first bytes = decide (checkRunRows toy key iv first bytes) (runRecord inWords toy plaintext key iv first (blocksOf bytes))
 
 abbrev checkingBy : (List ℕ → List ℕ → ℕ → List ℕ → Answer RunRecord) → Calls
-checkingBy checks = record { seals-run = sealRun inWords toy; checks-run = checks; joins-two = joinTwo inWords; joins-list = joinList inWords; closes = close inWords toy; tests = test inWords toy }
+checkingBy checks = record { seals-run = sealRun inWords toy; checks-run = checks; joins-two = joinTwo inWords; joins-list = joinList inWords; closes = λ t. close inWords t toy; tests = λ t. test inWords t toy }
 
 pub wrong-half-refuted : Demand3 toy (checkingBy wrongHalf) → ⊥
 unfolding computed wrongHalf
@@ -384,31 +384,31 @@ wrong-number-later-refuted d =
     omega arith
 
 -- a closer that takes the mask before the last block, not after it
-pub maskBefore : List ℕ → List ℕ → RunRecord → Answer (List ℕ)
-maskBefore key iv r = decide (closeRows inWords toy key iv r) (tagFrom toy key (bytesOf (r .preauthenticator)) (jump (r .count - 1) (startMask toy key iv)))
+pub maskBefore : Finish → List ℕ → List ℕ → RunRecord → Answer (List ℕ)
+maskBefore t key iv r = decide (closeRows inWords toy key iv r) (t .tagFrom toy key (bytesOf (r .preauthenticator)) (jump (r .count - 1) (startMask toy key iv)))
 
-abbrev closingBy : (List ℕ → List ℕ → RunRecord → Answer (List ℕ)) → (List ℕ → List ℕ → RunRecord → List ℕ → Answer (Unit {0})) → Calls
+abbrev closingBy : (Finish → List ℕ → List ℕ → RunRecord → Answer (List ℕ)) → (Finish → List ℕ → List ℕ → RunRecord → List ℕ → Answer (Unit {0})) → Calls
 closingBy closes tests = record { seals-run = sealRun inWords toy; checks-run = checkRun inWords toy; joins-two = joinTwo inWords; joins-list = joinList inWords; closes = closes; tests = tests }
 
-pub mask-before-last-refuted : Demand3 toy (closingBy maskBefore (test inWords toy)) → ⊥
+pub mask-before-last-refuted : Demand3 toy (closingBy maskBefore (λ t. test inWords t toy)) → ⊥
 unfolding computed maskBefore
 mask-before-last-refuted d =
-    let e : _≡_ {A = ℕ} 2 7 = ap (λ (t : List ℕ). getD t 0 0) (same-answer _ _ (close-forced (closingBy maskBefore (test inWords toy)) d)) in
+    let e : _≡_ {A = ℕ} 2 7 = ap (λ (t : List ℕ). getD t 0 0) (same-answer _ _ (close-forced (closingBy maskBefore (λ t. test inWords t toy)) d)) in
     omega arith
 
 -- a test that passes every tag, and one that passes none: of a message that is sealed, and of a record that is checked
-pub passes-any-tag-refuted : Demand3 toy (closingBy (close inWords toy) (λ key iv r tag. given tt)) → ⊥
+pub passes-any-tag-refuted : Demand3 toy (closingBy (λ t. close inWords t toy) (λ t key iv r tag. given tt)) → ⊥
 passes-any-tag-refuted d =
-    let e : _≡_ {A = ℕ} 7 0 = ap (λ (t : List ℕ). getD t 0 0) ((test-forced (closingBy (close inWords toy) (λ key iv r tag. given tt)) d (replicate 16 0) refl) .0 refl) in
+    let e : _≡_ {A = ℕ} 7 0 = ap (λ (t : List ℕ). getD t 0 0) ((test-forced (closingBy (λ t. close inWords t toy) (λ t key iv r tag. given tt)) d (replicate 16 0) refl) .0 refl) in
     omega arith
 
-pub passes-no-tag-refuted : Demand3 toy (closingBy (close inWords toy) (λ key iv r tag. refused 6)) → ⊥
-passes-no-tag-refuted d = no-answer 6 tt ((test-forced (closingBy (close inWords toy) (λ key iv r tag. refused 6)) d oneTag refl) .1 refl)
+pub passes-no-tag-refuted : Demand3 toy (closingBy (λ t. close inWords t toy) (λ t key iv r tag. refused 6)) → ⊥
+passes-no-tag-refuted d = no-answer 6 tt ((test-forced (closingBy (λ t. close inWords t toy) (λ t key iv r tag. refused 6)) d oneTag refl) .1 refl)
 
-pub passes-any-checked-refuted : Demand3 toy (closingBy (close inWords toy) (λ key iv r tag. given tt)) → ⊥
+pub passes-any-checked-refuted : Demand3 toy (closingBy (λ t. close inWords t toy) (λ t key iv r tag. given tt)) → ⊥
 passes-any-checked-refuted d =
-    let e : _≡_ {A = ℕ} 7 0 = ap (λ (t : List ℕ). getD t 0 0) ((checked-test-forced (closingBy (close inWords toy) (λ key iv r tag. given tt)) d 0) .0 refl) in
+    let e : _≡_ {A = ℕ} 7 0 = ap (λ (t : List ℕ). getD t 0 0) ((checked-test-forced (closingBy (λ t. close inWords t toy) (λ t key iv r tag. given tt)) d 0) .0 refl) in
     omega arith
 
-pub passes-no-checked-refuted : Demand3 toy (closingBy (close inWords toy) (λ key iv r tag. refused 6)) → ⊥
-passes-no-checked-refuted d = no-answer 6 tt ((checked-test-forced (closingBy (close inWords toy) (λ key iv r tag. refused 6)) d 7) .1 refl)
+pub passes-no-checked-refuted : Demand3 toy (closingBy (λ t. close inWords t toy) (λ t key iv r tag. refused 6)) → ⊥
+passes-no-checked-refuted d = no-answer 6 tt ((checked-test-forced (closingBy (λ t. close inWords t toy) (λ t key iv r tag. refused 6)) d 7) .1 refl)

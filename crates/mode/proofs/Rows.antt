@@ -10,8 +10,8 @@ use lib.ListN.{length}
 use lib.Signed.{ltZ}
 use borrow.Author.Tests.{eq-eqb, ne-eqb, le-ltb, lt-ltb}
 use Rattle.blocks.specs.Bytes.{zeros}
-use Rattle.mode.specs.Mode.{RunRecord, inWords}
-use Rattle.mode.specs.Table.{Answer, refused, given, decide, firstRow, limit, longestMessage, longestSealed, not16, unaligned, tooLong, notSealed, beyond, tooFar, notWhole}
+use Rattle.mode.specs.Mode.{Finish, overhead, RunRecord, inWords}
+use Rattle.mode.specs.Table.{Answer, refused, given, decide, firstRow, limit, longestMessage, longestSealed, not16, unaligned, tooLong, notTag, notSealed, beyond, tooFar, notWhole}
 use Rattle.mode.specs.Calls.{outcomeBy, number}
 
 -- ---- the first row
@@ -139,14 +139,24 @@ pub is-whole : (r : RunRecord) → r .first ≡ 0 → (r .count ≡ 0 → ⊥) �
 unfolding notWhole
 is-whole r e h = rw (eq-eqb (r .first) 0 e, ne-eqb (r .count) 0 h)
 
-pub sealed-short : (s : List ℕ) → length s < 48 → notSealed s ≡ true
-unfolding notSealed
-sealed-short s h = rw (lt-ltb (length s) 48 h)
+module _ (t : Finish) where
+  pub isnt-tag : (a : List ℕ) → (length a ≡ t .tagLength → ⊥) → notTag t a ≡ true
+  unfolding notTag
+  isnt-tag a h = ap not (ne-eqb (length a) (t .tagLength) h)
 
-pub sealed-long : (s : List ℕ) → 48 ≤ length s → longestSealed < length s → notSealed s ≡ true
-unfolding notSealed
-sealed-long s k h = rw (le-ltb (length s) 48 k, lt-ltb longestSealed (length s) h)
+  pub is-tag : (a : List ℕ) → length a ≡ t .tagLength → notTag t a ≡ false
+  unfolding notTag
+  is-tag a h = ap not (eq-eqb (length a) (t .tagLength) h)
 
-pub sealed-misaligned : (s : List ℕ) → 48 ≤ length s → length s ≤ longestSealed → (length s % 16 ≡ 0 → ⊥) → notSealed s ≡ true
-unfolding notSealed
-sealed-misaligned s k l h = rw (le-ltb (length s) 48 k, le-ltb longestSealed (length s) l, misaligned s h)
+  pub sealed-short : (s : List ℕ) → length s < 16 + overhead t → notSealed t s ≡ true
+  unfolding notSealed
+  sealed-short s h = rw (lt-ltb (length s) (16 + overhead t) h)
+
+  pub sealed-long : (s : List ℕ) → 16 + overhead t ≤ length s → longestSealed t < length s → notSealed t s ≡ true
+  unfolding notSealed
+  sealed-long s k h = rw (le-ltb (length s) (16 + overhead t) k, lt-ltb (longestSealed t) (length s) h)
+
+  -- else the multiple of 16 decides
+  pub sealed-rest : (s : List ℕ) → 16 + overhead t ≤ length s → length s ≤ longestSealed t → notSealed t s ≡ not (eqb ((length s - overhead t) % 16) 0)
+  unfolding notSealed
+  sealed-rest s k l = rw (le-ltb (length s) (16 + overhead t) k, le-ltb (longestSealed t) (length s) l)

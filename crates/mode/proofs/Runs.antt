@@ -14,7 +14,7 @@ use Rattle.blocks.specs.Words.{wordsOf}
 use Rattle.gf128.specs.Gf128.{timesX, jump}
 use Rattle.gf128.proofs.TimesX.{length-timesX, length-jump, jump-add}
 use Rattle.fips197.specs.Aes.{KeyLength}
-use Rattle.mode.specs.Mode.{Cipher, Lawful, Source, plaintext, ciphertext, RunRecord, inWords, zeroBlock, startMask, middletext, written, pass, unbroken, recordOf, blocksOf, ivPart}
+use Rattle.mode.specs.Mode.{Cipher, Lawful, Finish, Source, plaintext, ciphertext, RunRecord, inWords, zeroBlock, startMask, middletext, written, pass, unbroken, recordOf, blocksOf, ivPart}
 use Rattle.mode.specs.Table.{Answer, refused, given, decide, not16, beyond, zeroMask, limit}
 use Rattle.mode.specs.Calls.{unalignedRun, Kind, middle, last, blocksOfRun, outcomeBy, passFrom, runRecord, sealRun, sealRunRows, checkRun, callsOf}
 use Rattle.mode.specs.Parallel.{Work, sealing, checking, sourceOf, ivOf, Fits, Run, roomOf, outcomeOfRun}
@@ -45,13 +45,13 @@ turned-cond false x y = refl
 
 pub iv-long : (w : Work) → Fits w → length (ivOf w) ≡ 16
 unfolding Fits ivOf ivPart
-iv-long (sealing iv message) h = h .0
-iv-long (checking sealed) h = length-take-le 16 sealed (omega arith)
+iv-long (sealing t iv message) h = h .0
+iv-long (checking t sealed) h = length-take-le 16 sealed (omega (arith, h .0))
 
 -- a run of a message has any kind; a run of a ciphertext is no last one
 unfoldable pub Suits : Work → Kind → Type 0
-Suits (sealing iv message) kind = Unit {0}
-Suits (checking sealed) kind = kind ≡ middle
+Suits (sealing t iv message) kind = Unit {0}
+Suits (checking t sealed) kind = kind ≡ middle
 
 -- a run that stands after the blocks `before`
 pub record GoodRun (w : Work) (before : List (List ℕ)) (r : Run) : Type 0 where
@@ -150,15 +150,15 @@ module _ (c : Cipher) (laws : Lawful c) (key : List ℕ) (key-size : KeyLength k
     unfolding passFrom outputOf
     run-output before these first e = ap (λ (n : ℕ). (pass c (sourceOf w) key these (jump n (mask0 c key w)) zeroBlock) .output) e
 
-  check-rows : (kind : Kind) (sealed : List ℕ) (r : Run) → Fits (checking sealed) → kind ≡ middle → unalignedRun kind (r .bytes) ≡ false
+  check-rows : (kind : Kind) (t : Finish) (sealed : List ℕ) (r : Run) → Fits (checking t sealed) → kind ≡ middle → unalignedRun kind (r .bytes) ≡ false
       → r .first + length (blocksOfRun kind (r .bytes)) ≤ limit
       → checkRun inWords c key (ivPart sealed) (r .first) (r .bytes)
       ≡ cond (zeroMask c key (ivPart sealed)) (refused 10) (given (runRecord inWords c ciphertext key (ivPart sealed) (r .first) (blocksOfRun kind (r .bytes))))
   unfolding checkRun decide blocksOfRun unalignedRun ivOf
-  check-rows middle sealed r fit e al bd =
+  check-rows middle t sealed r fit e al bd =
       let b : beyond (r .first) (length (blocksOf (r .bytes))) ≡ false = within (r .first) (length (blocksOf (r .bytes))) bd in
-      rw (is-key key key-size, is16 (ivPart sealed) (iv-long (checking sealed) fit), al, b)
-  check-rows last sealed r fit e al bd = absurd (let z : _≡_ {A = ℕ} 0 1 = cc in omega arith)
+      rw (is-key key key-size, is16 (ivPart sealed) (iv-long (checking t sealed) fit), al, b)
+  check-rows last t sealed r fit e al bd = absurd (let z : _≡_ {A = ℕ} 0 1 = cc in omega arith)
 
   -- what the call of a run comes to
   pub run-outcome : (w : Work) (fit : Fits w) (before : List (List ℕ)) (r : Run) (room : ℕ) → GoodRun w before r
@@ -170,7 +170,7 @@ module _ (c : Cipher) (laws : Lawful c) (key : List ℕ) (key-size : KeyLength k
       (given (recordFor c key w before (blocksOfRun (r .kind) (r .bytes)))) (refused 5)))
       (outputOf c key w before (blocksOfRun (r .kind) (r .bytes))) (roomOf w room)
   unfolding outcomeOfRun roomOf sealRun decide ivOf sourceOf Suits
-  run-outcome (sealing iv message) fit before r room good bound =
+  run-outcome (sealing t iv message) fit before r room good bound =
       ap₂ (λ (a : Answer RunRecord) (o : List ℕ). outcomeBy a o room)
       (rows
       ∙ ap (cond (zeroMask c key iv) (refused 10))
@@ -180,7 +180,7 @@ module _ (c : Cipher) (laws : Lawful c) (key : List ℕ) (key-size : KeyLength k
       (run-output w fit before bs (r .first) (good .starts))
     where
       w : Work
-      w = sealing iv message
+      w = sealing t iv message
 
       bs : List (List ℕ)
       bs = blocksOfRun (r .kind) (r .bytes)
@@ -199,13 +199,13 @@ module _ (c : Cipher) (laws : Lawful c) (key : List ℕ) (key-size : KeyLength k
           unfold outputOf sourceOf in
           output-long bs (jump (length before) (mask0 c key w)) zeroBlock (run-long (r .kind) (r .bytes) (good .is-aligned))
           (length-jump (length before) (mask0 c key w) (mask0-long w fit))
-  run-outcome (checking sealed) fit before r room good bound =
+  run-outcome (checking t sealed) fit before r room good bound =
       rw nothing
       (ap (λ (a : Answer RunRecord). outcomeBy a [] 0)
-      (check-rows (r .kind) sealed r fit (good .suits) (good .is-aligned) (rw (good .starts) bound) ∙ ap (λ (x : RunRecord). cond (zeroMask c key (ivPart sealed)) (refused 10) (given x)) (run-record w fit before bs (r .first) (good .starts))))
+      (check-rows (r .kind) t sealed r fit (good .suits) (good .is-aligned) (rw (good .starts) bound) ∙ ap (λ (x : RunRecord). cond (zeroMask c key (ivPart sealed)) (refused 10) (given x)) (run-record w fit before bs (r .first) (good .starts))))
     where
       w : Work
-      w = checking sealed
+      w = checking t sealed
 
       bs : List (List ℕ)
       bs = blocksOfRun (r .kind) (r .bytes)

@@ -13,10 +13,10 @@ use Rattle.blocks.proofs.Test.{bytes-by}
 use Rattle.blocks.proofs.XorBytes.{xorBytes-cancel, block-xor}
 use Rattle.gf128.specs.Gf128.{timesX, jump, carry, shiftLeft, reduction}
 use Rattle.fips197.specs.Aes.{KeyLength, short, long, Key}
-use Rattle.mode.specs.Mode.{Cipher, Lawful, zeroBlock, keyBlock, blocksOf, padded, encrypt, startMask, middletext, written, pass, unbroken, recordOf, ivPart, cipherPart, tagPart, tagFrom, unbrokenTag, sealedRecord}
-use Rattle.mode.specs.Table.{decide, notKey, not16, unaligned, beyond, anyBeyond, apart, none, notWhole, notSealed, zeroMask}
+use Rattle.mode.specs.Mode.{Cipher, Lawful, zeroBlock, keyBlock, blocksOf, padded, encrypt, startMask, middletext, written, pass, unbroken, recordOf, ivPart, cipherPart, tagPart, encryptedTag, byCipher, unbrokenTag, sealedRecord}
+use Rattle.mode.specs.Table.{decide, notKey, not16, unaligned, beyond, anyBeyond, apart, none, notWhole, notTag, notSealed, zeroMask}
 use Rattle.mode.specs.Calls.{unalignedRun, blocksOfRun, outcomeBy, joined, joinedOnto, joinedAll, joinTwo, joinList, passFrom, runRecord, sealRun, checkRun, closingTag, close, test, openSealed, openRows, notPadded, orEmpty, unpadded, unpadFrom, plaintextOf, decrypted}
-use Rattle.mode.specs.Parallel.{sealing, checking, sourceOf, ivOf, textOf, lastKind, allBlocks, Fits, Cut, Setting, WellFormed, runsFrom, blocksOfRuns, runsIn, recordIn, bytesIn, isRecorded, runsOf, bytesOfSegments, blocksIn, consecutive, AllRecorded, Allowed, mergeBy, recordBy, headOr, firstRun, empties, start, roomOf, outcomeOfRun, runOutcome, answerOf, after, afterAll, EachCall}
+use Rattle.mode.specs.Parallel.{sealing, checking, sourceOf, finishOf, ivOf, textOf, lastKind, allBlocks, Fits, Cut, Setting, WellFormed, runsFrom, blocksOfRuns, runsIn, recordIn, bytesIn, isRecorded, runsOf, bytesOfSegments, blocksIn, consecutive, AllRecorded, Allowed, mergeBy, recordBy, headOr, firstRun, empties, start, roomOf, outcomeOfRun, runOutcome, answerOf, after, afterAll, EachCall}
 use Rattle.mode.specs.Demands.{whole, wholeTag, recordOfSegments, ciphertextOfSegment, Expected, TestedAs}
 use Rattle.fips197.proofs.Keys.{at-least-16}
 use Rattle.mode.proofs.Laws.{xor-long}
@@ -61,7 +61,7 @@ toy-lawful =
 
 -- to unfold this is to unfold all that a small case computes by
 unfoldable pub computed : Unit {0}
-unfolding xorBytes firstBlocks same concat num lowBytes bytesOf wordsOf timesX jump carry shiftLeft reduction blocksOf padded keyBlock encrypt startMask middletext written pass unbroken recordOf ivPart cipherPart tagPart tagFrom unbrokenTag sealedRecord decide notKey not16 unaligned beyond anyBeyond apart none notWhole notSealed zeroMask unalignedRun blocksOfRun outcomeBy joined joinedOnto joinedAll joinTwo joinList passFrom runRecord sealRun checkRun closingTag close test openSealed openRows notPadded orEmpty unpadded unpadFrom plaintextOf decrypted sourceOf ivOf textOf lastKind allBlocks Fits Cut runsFrom blocksOfRuns runsIn recordIn bytesIn isRecorded runsOf bytesOfSegments blocksIn consecutive AllRecorded Allowed mergeBy recordBy headOr firstRun empties start roomOf outcomeOfRun runOutcome answerOf after afterAll EachCall whole wholeTag recordOfSegments ciphertextOfSegment Expected TestedAs
+unfolding xorBytes firstBlocks same concat num lowBytes bytesOf wordsOf timesX jump carry shiftLeft reduction blocksOf padded keyBlock encrypt startMask middletext written pass unbroken recordOf ivPart cipherPart tagPart encryptedTag unbrokenTag sealedRecord decide notKey not16 unaligned beyond anyBeyond apart none notWhole notTag notSealed zeroMask unalignedRun blocksOfRun outcomeBy joined joinedOnto joinedAll joinTwo joinList passFrom runRecord sealRun checkRun closingTag close test openSealed openRows notPadded orEmpty unpadded unpadFrom plaintextOf decrypted sourceOf finishOf ivOf textOf lastKind allBlocks Fits Cut runsFrom blocksOfRuns runsIn recordIn bytesIn isRecorded runsOf bytesOfSegments blocksIn consecutive AllRecorded Allowed mergeBy recordBy headOr firstRun empties start roomOf outcomeOfRun runOutcome answerOf after afterAll EachCall whole wholeTag recordOfSegments ciphertextOfSegment Expected TestedAs
 computed = tt
 
 abbrev pub aKey : List ℕ
@@ -82,7 +82,7 @@ anIv = replicate 16 2
 
 -- the empty message in one piece, which gets the padding
 abbrev pub onePiece : Setting
-onePiece = record { key = aKey; work = sealing anIv []; pieces = [] ∷ [] }
+onePiece = record { key = aKey; work = sealing byCipher anIv []; pieces = [] ∷ [] }
 
 pub onePiece-formed : WellFormed onePiece
 unfolding computed
@@ -90,14 +90,14 @@ onePiece-formed = record { key-is = aKey-is; iv-bytes = bytes-by anIv tt; text-b
 
 -- the same under a key of zeros; and under an IV that is the key, so that step 1 comes to zero and the key is the start mask
 abbrev pub zeroKey : Setting
-zeroKey = record { key = zeroBlock; work = sealing anIv []; pieces = [] ∷ [] }
+zeroKey = record { key = zeroBlock; work = sealing byCipher anIv []; pieces = [] ∷ [] }
 
 pub zeroKey-formed : WellFormed zeroKey
 unfolding computed
 zeroKey-formed = record { key-is = record { size = short refl; bytes = bytes-by zeroBlock tt }; iv-bytes = bytes-by anIv tt; text-bytes = bytes-by [] tt; fits = (refl, lit≤ tt); cut = tt; pieces-are = refl }
 
 abbrev pub replaced : Setting
-replaced = record { key = aKey; work = sealing aKey []; pieces = [] ∷ [] }
+replaced = record { key = aKey; work = sealing byCipher aKey []; pieces = [] ∷ [] }
 
 pub replaced-formed : WellFormed replaced
 unfolding computed
@@ -105,7 +105,7 @@ replaced-formed = record { key-is = aKey-is; iv-bytes = bytes-by aKey tt; text-b
 
 -- a key of 32 bytes under the IV that is its last 16: step 1 comes to zero again, and the first 16 are the start mask
 abbrev pub longReplaced : Setting
-longReplaced = record { key = aLongKey; work = sealing (replicate 16 9) []; pieces = [] ∷ [] }
+longReplaced = record { key = aLongKey; work = sealing byCipher (replicate 16 9) []; pieces = [] ∷ [] }
 
 pub longReplaced-formed : WellFormed longReplaced
 unfolding computed
@@ -116,7 +116,7 @@ abbrev pub oneText : List ℕ
 oneText = 0x81 ∷ replicate 15 1
 
 abbrev pub oneChecked : ℕ → Setting
-oneChecked byte = record { key = aKey; work = checking (anIv ++ (oneText ++ replicate 16 byte)); pieces = oneText ∷ [] }
+oneChecked byte = record { key = aKey; work = checking byCipher (anIv ++ (oneText ++ replicate 16 byte)); pieces = oneText ∷ [] }
 
 pub oneChecked-formed : (byte : ℕ) → WellFormed (oneChecked byte)
 unfolding computed
@@ -124,7 +124,7 @@ oneChecked-formed byte = record { key-is = aKey-is; iv-bytes = bytes-by anIv tt;
 
 -- a ciphertext of two blocks in two pieces
 abbrev pub twoChecked : Setting
-twoChecked = record { key = aKey; work = checking (replicate 64 7); pieces = replicate 16 7 ∷ replicate 16 7 ∷ [] }
+twoChecked = record { key = aKey; work = checking byCipher (replicate 64 7); pieces = replicate 16 7 ∷ replicate 16 7 ∷ [] }
 
 pub twoChecked-formed : WellFormed twoChecked
 unfolding computed
@@ -135,7 +135,7 @@ abbrev pub threePieces : Setting
 threePieces =
     record {
       key = aKey;
-      work = sealing anIv (replicate 16 3 ++ (replicate 16 4 ++ []));
+      work = sealing byCipher anIv (replicate 16 3 ++ (replicate 16 4 ++ []));
       pieces = replicate 16 3 ∷ replicate 16 4 ∷ [] ∷ [];
     }
 

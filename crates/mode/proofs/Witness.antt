@@ -9,7 +9,7 @@ use lib.ListN.{take, getD, replicate}
 use lib.Dec.{lit<, lit≤}
 use lib.Bits.{bitXor}
 use Rattle.blocks.proofs.Test.{bytes-by}
-use Rattle.mode.specs.Mode.{plaintext, RunRecord, inWords, zeroBlock, sealedRecord, unbroken, unbrokenTag}
+use Rattle.mode.specs.Mode.{byCipher, plaintext, RunRecord, inWords, zeroBlock, sealedRecord, unbroken, unbrokenTag}
 use Rattle.mode.specs.Table.{refused, given}
 use Rattle.mode.specs.Calls.{middle, last, number, sealRun, callsOf, openSealed}
 use Rattle.mode.specs.Parallel.{sealing, Setting, WellFormed, Run, Segment, recorded, blocksIn, Call, runAt, joinPair, joinMany, Allowed, start, answerOf, after, afterAll, EachCall}
@@ -24,7 +24,7 @@ abbrev fourPieces : Setting
 fourPieces =
     record {
       key = aKey;
-      work = sealing anIv (replicate 16 3 ++ (replicate 16 4 ++ replicate 5 5));
+      work = sealing byCipher anIv (replicate 16 3 ++ (replicate 16 4 ++ replicate 5 5));
       pieces = replicate 16 3 ∷ [] ∷ replicate 16 4 ∷ replicate 5 5 ∷ [];
     }
 
@@ -97,7 +97,7 @@ checks-allowed = ((lit< tt, refl), ((lit< tt, refl), (((refl, (refl, tt)), inr r
 -- ---- under a key of 32 bytes: 21 bytes in two pieces, the second first; short of a byte; then the pair
 
 abbrev longKeyed : Setting
-longKeyed = record { key = aLongKey; work = sealing anIv (replicate 16 3 ++ replicate 5 5); pieces = replicate 16 3 ∷ replicate 5 5 ∷ [] }
+longKeyed = record { key = aLongKey; work = sealing byCipher anIv (replicate 16 3 ++ replicate 5 5); pieces = replicate 16 3 ∷ replicate 5 5 ∷ [] }
 
 longKeyed-formed : WellFormed longKeyed
 unfolding computed
@@ -166,29 +166,29 @@ zero-key-agrees = demand3 toy toy-lawful zeroKey refl zeroKey-formed (runAt 0 16
 -- ---- opening: a message that was sealed, a record with a bit of its tag flipped, a record whose last block is not padded
 
 abbrev sealed : List ℕ
-sealed = sealedRecord toy aKey anIv (5 ∷ 6 ∷ 7 ∷ [])
+sealed = sealedRecord byCipher toy aKey anIv (5 ∷ 6 ∷ 7 ∷ [])
 
-opens : (openSealed toy aKey sealed 16) .answer ≡ given (5 ∷ 6 ∷ 7 ∷ [])
+opens : (openSealed byCipher toy aKey sealed 16) .answer ≡ given (5 ∷ 6 ∷ 7 ∷ [])
 unfolding computed
 opens = refl
 
 -- the same under the key of 32 bytes, which the key of its first 16 does not open
-long-opens : (openSealed toy aLongKey (sealedRecord toy aLongKey anIv (5 ∷ 6 ∷ 7 ∷ [])) 16) .answer ≡ given (5 ∷ 6 ∷ 7 ∷ [])
+long-opens : (openSealed byCipher toy aLongKey (sealedRecord byCipher toy aLongKey anIv (5 ∷ 6 ∷ 7 ∷ [])) 16) .answer ≡ given (5 ∷ 6 ∷ 7 ∷ [])
 unfolding computed
 long-opens = refl
 
-first-block-opens-not : (openSealed toy aKey (sealedRecord toy aLongKey anIv (5 ∷ 6 ∷ 7 ∷ [])) 16) .answer ≡ refused 6
+first-block-opens-not : (openSealed byCipher toy aKey (sealedRecord byCipher toy aLongKey anIv (5 ∷ 6 ∷ 7 ∷ [])) 16) .answer ≡ refused 6
 unfolding computed
 first-block-opens-not = refl
 
-flipped : (openSealed toy aKey (take 47 sealed ++ (bitXor (getD sealed 47 0) 1 ∷ [])) 16) .answer ≡ refused 6
+flipped : (openSealed byCipher toy aKey (take 47 sealed ++ (bitXor (getD sealed 47 0) 1 ∷ [])) 16) .answer ≡ refused 6
 unfolding computed
 flipped = refl
 
 abbrev unpaddedRecord : List ℕ
 unpaddedRecord =
-    anIv ++ (unbroken toy plaintext aKey anIv (replicate 16 255 ∷ [])) .output ++ unbrokenTag toy plaintext aKey anIv (replicate 16 255 ∷ [])
+    anIv ++ (unbroken toy plaintext aKey anIv (replicate 16 255 ∷ [])) .output ++ unbrokenTag byCipher toy plaintext aKey anIv (replicate 16 255 ∷ [])
 
-not-padded : (openSealed toy aKey unpaddedRecord 16) .answer ≡ refused 7
+not-padded : (openSealed byCipher toy aKey unpaddedRecord 16) .answer ≡ refused 7
 unfolding computed
 not-padded = refl

@@ -16,7 +16,7 @@ use Rattle.mode.specs.Calls.{sealRun, checkRun, joinList, close, test, s
 use Rattle.mode.specs.Parallel.{ivOf, Setting, WellFormed, Run, Segment, empties, isRecorded, segment, Call, runAt, joinPair, joinMany, AllRecorded, Allowed, mergeBy, recordBy, start, roomOf, runOutcome, answerOf, after, afterAll, EachCall}
 use Rattle.mode.specs.Demands.{Refuses, ciphertextOfSegment, ZeroMask, zeroMaskIv, without, AsBefore, RunRefused, ZeroMaskRack}
 use Rattle.fips197.proofs.Keys.{is-key}
-use Rattle.mode.proofs.Rows.{not-too-long}
+use Rattle.mode.proofs.Rows.{not-too-long, is-tag}
 use Rattle.mode.proofs.Decisions.{outcome-refuses}
 use Rattle.mode.proofs.Blocks.{aligned}
 use Rattle.mode.proofs.Halves.{first-block, first-back, second-back}
@@ -111,12 +111,12 @@ zero-mask c laws =
       exactly = exactly c laws;
       one-iv = λ key kb z. (iv-block c laws key kb, one-iv c laws key kb z);
       no-other = λ key iv kb. no-other c laws key kb iv;
-      of-seal = λ key iv message room z hk hi hm. outcome-refuses _ _ room 10 (rw (is-key key hk, is16 iv hi, not-too-long message hm, z));
-      of-open = λ key sealed room z hk hs. outcome-refuses _ _ room 10 (rw (is-key key hk, hs, z));
+      of-seal = λ t key iv message room z hk hi hm. outcome-refuses _ _ room 10 (rw (is-key key hk, is16 iv hi, not-too-long message hm, z));
+      of-open = λ t key sealed room z hk hs. outcome-refuses _ _ room 10 (rw (is-key key hk, hs, z));
       of-seal-run = λ key iv first kind bytes room z hk hi ha hb. outcome-refuses _ _ room 10 (rw (is-key key hk, is16 iv hi, ha, within first _ hb, z));
       of-check-run = λ key iv first bytes z hk hi ha hb. rw (is-key key hk, is16 iv hi, aligned bytes ha, within first _ hb, z);
-      of-close = λ key iv r z hk hi hb hw. rw (is-key key hk, is16 iv hi, within (r .first) (r .count) hb, hw, z);
-      of-test = λ key iv r tag z hk hi ht hb hw. rw (is-key key hk, is16 iv hi, is16 tag ht, within (r .first) (r .count) hb, hw, z);
+      of-close = λ t key iv r z hk hi hb hw. rw (is-key key hk, is16 iv hi, within (r .first) (r .count) hb, hw, z);
+      of-test = λ t key iv r tag z hk hi ht hb hw. rw (is-key key hk, is16 iv hi, is-tag t tag ht, within (r .first) (r .count) hb, hw, z);
     }
 
 -- ---- every other pair: a row that does not hold may be left out
@@ -125,12 +125,12 @@ pub as-before : (c : Cipher) → AsBefore c
 unfolding decide without seal openSealed openRows sealRun checkRun close test
 as-before c =
     record {
-      of-seal = λ key iv message room nz. rw nz;
-      of-open = λ key sealed room nz. rw nz;
+      of-seal = λ t key iv message room nz. rw nz;
+      of-open = λ t key sealed room nz. rw nz;
       of-seal-run = λ key iv first kind bytes room nz. rw nz;
       of-check-run = λ key iv first bytes nz. rw nz;
-      of-close = λ key iv r nz. rw nz;
-      of-test = λ key iv r tag nz. rw nz;
+      of-close = λ t key iv r nz. rw nz;
+      of-test = λ t key iv r tag nz. rw nz;
     }
 
 -- ---- the rack

@@ -7,8 +7,9 @@ use lib.ListN.{length, take}
 use lib.IntN.{ℤ}
 use Rattle.blocks.specs.Bytes.{xorBytes, same, zeros}
 use Rattle.gf128.specs.Gf128.{timesX, jump, jumpBy}
-use Rattle.mode.specs.Mode.{Cipher, Source, plaintext, ciphertext, Pass, Form, RunRecord, inWords, blocksOf, padded, zeroBlock, startMask, middletext, pass, tagFrom, unbrokenTag, sealedRecord, ivPart, cipherPart, tagPart}
-use Rattle.mode.specs.Table.{Answer, refused, given, decide, notKey, not16, unaligned, tooLong, notSealed, beyond, anyBeyond, tooFar, apart, none, notWhole, zeroMask, tooShort}
+use Rattle.sha1.specs.Sha1.{sha1}
+use Rattle.mode.specs.Mode.{Cipher, Finish, Source, plaintext, ciphertext, Pass, Form, RunRecord, inWords, blocksOf, padded, zeroBlock, startMask, middletext, pass, unbrokenTag, sealedRecord, ivPart, cipherPart, tagPart}
+use Rattle.mode.specs.Table.{Answer, refused, given, decide, notKey, not16, unaligned, tooLong, notTag, notSealed, beyond, anyBeyond, tooFar, unhashable, apart, none, notWhole, zeroMask, tooShort}
 -- the code's answers, as it declares them
 pub use Rattle.mode.specs.declared.Written.{Written}
 pub use Rattle.mode.specs.declared.RunAnswer.{RunAnswer}
@@ -124,20 +125,21 @@ module _ (f : Form) where
         ∷ (10, zeroMask c key iv)
         ∷ []
 
+  module _ (t : Finish) (c : Cipher) where
     -- the tag of a whole record
     unfoldable pub closingTag : List ℕ → List ℕ → f .Record → List ℕ
-    closingTag key iv r = tagFrom c key (f .preauthenticator r) (jump (f .count r) (startMask c key iv))
+    closingTag key iv r = t .tagFrom c key (f .preauthenticator r) (jump (f .count r) (startMask c key iv))
 
     -- CLOSE a record into its tag
     unfoldable pub close : List ℕ → List ℕ → f .Record → Answer (List ℕ)
-    close key iv r = decide (closeRows key iv r) (closingTag key iv r)
+    close key iv r = decide (closeRows c key iv r) (closingTag key iv r)
 
     -- TEST a tag against a record: it passes if closing gives that tag
     abbrev pub testRows : List ℕ → List ℕ → f .Record → List ℕ → List (ℕ × Bool)
     testRows key iv r tag =
         (1, notKey key)
         ∷ (2, not16 iv)
-        ∷ (3, not16 tag)
+        ∷ (3, notTag t tag)
         ∷ (4, beyond (f .first r) (f .count r))
         ∷ (9, notWhole f r)
         ∷ (10, zeroMask c key iv)
@@ -170,36 +172,38 @@ unfoldable pub orEmpty : Option (List ℕ) → List ℕ
 orEmpty no-message = []
 orEmpty (some message) = message
 
-module _ (c : Cipher) where
+module _ (t : Finish) (c : Cipher) where
   abbrev pub sealRows : List ℕ → List ℕ → List ℕ → ℕ → List (ℕ × Bool)
   sealRows key iv message room =
       (1, notKey key)
       ∷ (2, not16 iv)
       ∷ (3, tooLong message)
       ∷ (10, zeroMask c key iv)
-      ∷ (5, tooShort room (length (sealedRecord c key iv message)))
+      ∷ (5, tooShort room (length (sealedRecord t c key iv message)))
       ∷ []
 
   -- SEAL a message: the answer is the sealed record
   unfoldable pub seal : List ℕ → List ℕ → List ℕ → ℕ → Outcome (List ℕ)
-  seal key iv message room = outcomeBy (decide (sealRows key iv message room) (sealedRecord c key iv message)) (sealedRecord c key iv message) room
+  seal key iv message room = outcomeBy (decide (sealRows key iv message room) (sealedRecord t c key iv message)) (sealedRecord t c key iv message) room
 
+module _ (c : Cipher) where
   -- the plaintext: the first half run backwards on the middletext, plus the mask
   unfoldable pub decrypted : List ℕ → List (List ℕ) → List ℕ → List ℕ
   decrypted key [] mask = []
   decrypted key (block ∷ blocks) mask =
       xorBytes (c .firstHalfBack key (middletext c ciphertext key mask block)) mask ++ decrypted key blocks (timesX mask)
 
+module _ (t : Finish) (c : Cipher) where
   unfoldable pub plaintextOf : List ℕ → List ℕ → List ℕ
-  plaintextOf key sealed = decrypted key (blocksOf (cipherPart sealed)) (startMask c key (ivPart sealed))
+  plaintextOf key sealed = decrypted c key (blocksOf (cipherPart t sealed)) (startMask c key (ivPart sealed))
 
   unfoldable pub openRows : List ℕ → List ℕ → ℕ → List (ℕ × Bool)
   openRows key sealed room =
       (1, notKey key)
-      ∷ (3, notSealed sealed)
+      ∷ (3, notSealed t sealed)
       ∷ (10, zeroMask c key (ivPart sealed))
-      ∷ (5, tooShort room (length (cipherPart sealed)))
-      ∷ (6, not (same (unbrokenTag c ciphertext key (ivPart sealed) (blocksOf (cipherPart sealed))) (tagPart sealed)))
+      ∷ (5, tooShort room (length (cipherPart t sealed)))
+      ∷ (6, not (same (unbrokenTag t c ciphertext key (ivPart sealed) (blocksOf (cipherPart t sealed))) (tagPart t sealed)))
       ∷ (7, notPadded (unpadded (plaintextOf key sealed)))
       ∷ []
 
@@ -218,6 +222,15 @@ jumpRows mask distance room = (3, not16 mask) ∷ (4, tooFar distance) ∷ (5, t
 unfoldable pub jumpMask : List ℕ → ℤ → ℕ → Outcome (List ℕ)
 jumpMask mask distance room = outcomeBy (decide (jumpRows mask distance room) (jumpBy distance mask)) (jumpBy distance mask) room
 
+-- ---- SHA-1 (ticket P4)
+
+abbrev pub sha1Rows : List ℕ → ℕ → List (ℕ × Bool)
+sha1Rows text room = (3, unhashable text) ∷ (5, tooShort room 20) ∷ []
+
+-- SHA-1 of a text: the answer is the digest
+unfoldable pub sha1Text : List ℕ → ℕ → Outcome (List ℕ)
+sha1Text text room = outcomeBy (decide (sha1Rows text room) (sha1 text)) (sha1 text) room
+
 -- ---- the calls of which demand 3 speaks, any way they may answer
 
 pub record Calls : Type 0 where
@@ -225,8 +238,8 @@ pub record Calls : Type 0 where
   pub checks-run : List ℕ → List ℕ → ℕ → List ℕ → Answer RunRecord
   pub joins-two : RunRecord → RunRecord → Answer RunRecord
   pub joins-list : List RunRecord → Answer RunRecord
-  pub closes : List ℕ → List ℕ → RunRecord → Answer (List ℕ)
-  pub tests : List ℕ → List ℕ → RunRecord → List ℕ → Answer (Unit {0})
+  pub closes : Finish → List ℕ → List ℕ → RunRecord → Answer (List ℕ)
+  pub tests : Finish → List ℕ → List ℕ → RunRecord → List ℕ → Answer (Unit {0})
 
 -- ours: what the contracts cite
 abbrev pub callsOf : Cipher → Calls
@@ -236,8 +249,8 @@ callsOf c =
       checks-run = checkRun inWords c;
       joins-two = joinTwo inWords;
       joins-list = joinList inWords;
-      closes = close inWords c;
-      tests = test inWords c;
+      closes = λ t. close inWords t c;
+      tests = λ t. test inWords t c;
     }
 
 -- ---- the answers as the code gives them
@@ -265,5 +278,9 @@ recordAnswerOf a = record { refusal = number a; run = orElse (blank inWords) a }
 abbrev pub refusedRecord : ℕ → RecordAnswer
 refusedRecord n = record { refusal = n; run = blank inWords }
 
+-- a tag as the code holds it: 20 bytes, zeros behind a shorter one
+unfoldable pub heldTag : List ℕ → List ℕ
+heldTag tag = tag ++ zeros (20 - length tag)
+
 unfoldable pub tagAnswerOf : Answer (List ℕ) → TagAnswer
-tagAnswerOf a = record { refusal = number a; tag = orElse zeroBlock a }
+tagAnswerOf a = record { refusal = number a; tag = heldTag (orElse [] a) }

@@ -1,5 +1,5 @@
 -- THE DEMANDS, as types, on one page. A reader who believes Mode, Table, Calls and Parallel reads this one. `c` is any cipher in two halves,
--- and `m` any set of calls. proofs/Demands.antt has the proof of each for AES, with keys of 16 and 32 bytes, and our calls; proofs/Refuted.antt has wrong calls, of
+-- `t` any finish, and `m` any set of calls. proofs/Demands.antt has the proof of each for AES, with keys of 16 and 32 bytes, both finishes, and our calls; proofs/Refuted.antt has wrong calls, of
 -- which demand 3 does not hold.
 -- All is said of the outcome functions of Calls: the contract of each call says that its answer and its whole lent output are what its
 -- outcome function gives. What lay in the output before is no argument of an outcome function, so it shows in nothing.
@@ -18,10 +18,11 @@ use Rattle.gf128.specs.Gf128.{jump, overX, jumpBy}
 use Rattle.fips197.specs.KeyExpansion.{roundKeys}
 use Rattle.fips197.specs.Aes.{KeyLength, Key}
 use Rattle.fips197.specs.Cipher.{cipher, invCipher, afterRound}
-use Rattle.mode.specs.Mode.{Cipher, Source, plaintext, ciphertext, Pass, Form, RunRecord, inWords, ByteRecord, inBytes, blocksOf, padded, zeroBlock, keyBlock, startMask, encrypt, pass, tagFrom, unbroken, unbrokenTag, recordOf, ivPart, cipherPart, tagPart, sealedRecord, UnbrokenCheck}
+use Rattle.sha1.specs.Sha1.{sha1}
+use Rattle.mode.specs.Mode.{Cipher, Source, plaintext, ciphertext, Pass, Form, RunRecord, inWords, ByteRecord, inBytes, blocksOf, padded, zeroBlock, keyBlock, startMask, encrypt, pass, Finish, overhead, LawfulFinish, byCipher, bySha1, unbroken, unbrokenTag, recordOf, ivPart, cipherPart, tagPart, sealedRecord, UnbrokenCheck}
 use Rattle.mode.specs.Table.{Answer, refused, given, decide, tableOrder, inOrder, NoneHolds, Decides, apart, notSealed, notWhole, zeroMask, limit, longestMessage}
-use Rattle.mode.specs.Calls.{Outcome, outcomeBy, Kind, blocksOfRun, unalignedRun, seal, sealRows, openSealed, openRows, unpadded, orEmpty, plaintextOf, passFrom, runRecord, sealRun, sealRunRows, checkRun, checkRunRows, joinTwo, joinTwoRows, joinList, joinListRows, joinedAll, closingTag, close, closeRows, test, testRows, jumpMask, jumpRows, Calls, callsOf}
-use Rattle.mode.specs.Parallel.{Work, sealing, checking, sourceOf, ivOf, allBlocks, Setting, WellFormed, Run, Segment, recorded, recordIn, bytesIn, isRecorded, blocksIn, segment, Call, runAt, joinPair, joinMany, consecutive, recordsAt, Allowed, start, roomOf, runOutcome, answerOf, afterAll, EachCall}
+use Rattle.mode.specs.Calls.{Outcome, outcomeBy, Kind, blocksOfRun, unalignedRun, seal, sealRows, openSealed, openRows, unpadded, orEmpty, plaintextOf, passFrom, runRecord, sealRun, sealRunRows, checkRun, checkRunRows, joinTwo, joinTwoRows, joinList, joinListRows, joinedAll, closingTag, close, closeRows, test, testRows, jumpMask, jumpRows, sha1Rows, sha1Text, Calls, callsOf}
+use Rattle.mode.specs.Parallel.{Work, sealing, checking, sourceOf, finishOf, ivOf, allBlocks, Setting, WellFormed, Run, Segment, recorded, recordIn, bytesIn, isRecorded, blocksIn, segment, Call, runAt, joinPair, joinMany, consecutive, recordsAt, Allowed, start, roomOf, runOutcome, answerOf, afterAll, EachCall}
 
 -- ---- THE CIPHER is FIPS 197's: AES-128 under a key of 16 bytes, AES-256 under one of 32
 
@@ -51,6 +52,15 @@ pub record KeyInStepOne (c : Cipher) : Type 0 where
   pub of-16 : (key iv : List ℕ) → length key ≡ 16 → startMask c key iv ≡ startMaskBy c key key iv
   pub of-32 : (a b iv : List ℕ) → length a ≡ 16 → length b ≡ 16 → startMask c (a ++ b) iv ≡ startMaskBy c (a ++ b) a iv
 
+-- ---- THE FINISHES (step 3; ticket P4): 16 bytes by the cipher, or 20 by SHA-1 of the whole key, the pre-authenticator and the mask after the
+-- last block, in that order
+
+pub record TwoFinishes (c : Cipher) : Type 0 where
+  pub by-cipher : (key a mask : List ℕ) → byCipher .tagFrom c key a mask ≡ xorBytes (encrypt c key (xorBytes a mask)) a
+  pub by-sha1 : (key a mask : List ℕ) → bySha1 .tagFrom c key a mask ≡ sha1 (key ++ a ++ mask)
+  pub cipher-long : (byCipher .tagLength ≡ 16) × LawfulFinish byCipher c
+  pub sha1-long : (bySha1 .tagLength ≡ 20) × LawfulFinish bySha1 c
+
 -- ---- what a call that writes comes to: every field of its outcome
 
 -- it gives `a`: the answer bytes, as many as reported, and zeros beyond them
@@ -77,15 +87,16 @@ abbrev pub AnsweredInto : {A : Type 0} → Outcome A → ℕ → Type 0
 AnsweredInto {A} o room = ((x : A) × (bytes : List ℕ) × Gives o x bytes room) ⊎ ((n : ℕ) × (InTable n × Refuses o n room))
 
 pub record Demand1 (c : Cipher) : Type 0 where
-  pub of-seal : (key iv message : List ℕ) (room : ℕ) → AnsweredInto (seal c key iv message room) room
-  pub of-open : (key sealed : List ℕ) (room : ℕ) → AnsweredInto (openSealed c key sealed room) room
+  pub of-seal : (t : Finish) (key iv message : List ℕ) (room : ℕ) → AnsweredInto (seal t c key iv message room) room
+  pub of-open : (t : Finish) (key sealed : List ℕ) (room : ℕ) → AnsweredInto (openSealed t c key sealed room) room
   pub of-seal-run : (key iv : List ℕ) (first : ℕ) (kind : Kind) (bytes : List ℕ) (room : ℕ) → AnsweredInto (sealRun inWords c key iv first kind bytes room) room
   pub of-check-run : (key iv : List ℕ) (first : ℕ) (bytes : List ℕ) → Answered (checkRun inWords c key iv first bytes)
   pub of-join : (l r : RunRecord) → Answered (joinTwo inWords l r)
   pub of-join-list : (rs : List RunRecord) → Answered (joinList inWords rs)
-  pub of-close : (key iv : List ℕ) (r : RunRecord) → Answered (close inWords c key iv r)
-  pub of-test : (key iv : List ℕ) (r : RunRecord) (tag : List ℕ) → Answered (test inWords c key iv r tag)
+  pub of-close : (t : Finish) (key iv : List ℕ) (r : RunRecord) → Answered (close inWords t c key iv r)
+  pub of-test : (t : Finish) (key iv : List ℕ) (r : RunRecord) (tag : List ℕ) → Answered (test inWords t c key iv r tag)
   pub of-jump : (mask : List ℕ) (distance : ℤ) (room : ℕ) → AnsweredInto (jumpMask mask distance room) room
+  pub of-sha1 : (text : List ℕ) (room : ℕ) → AnsweredInto (sha1Text text room) room
 
 -- ---- WHAT DEMANDS 2 AND 3 LEAVE OUT (ticket P3): a key and an IV whose start mask is still zero after its replacement. This is asked where
 -- something is to be given: to seal (2 a), to compare opening with the unbroken check (2 d), and of the rack (3). What the calls do with
@@ -94,32 +105,32 @@ pub record Demand1 (c : Cipher) : Type 0 where
 abbrev pub NonzeroMask : Cipher → List ℕ → List ℕ → Type 0
 NonzeroMask c key iv = zeroMask c key iv ≡ false
 
--- ---- DEMAND 2 (a). Sealing gives the record of the published mode, 16 j + 32 bytes for j blocks, and zeros beyond it; a message within the
--- limit, with a key of 16 or 32 bytes, an IV of 16, a start mask that is not zero and with room, is sealed.
+-- ---- DEMAND 2 (a). Sealing gives the record of the published mode, 16 j + 32 bytes for j blocks, or 16 j + 36 with the hash finish, and zeros
+-- beyond it; a message within the limit, with a key of 16 or 32 bytes, an IV of 16, a start mask that is not zero and with room, is sealed.
 
-pub record Demand2a (c : Cipher) : Type 0 where
-  pub gives : (key iv message r : List ℕ) (room : ℕ) → (seal c key iv message room) .answer ≡ given r
-      → (r ≡ sealedRecord c key iv message) × Gives (seal c key iv message room) r r room
+pub record Demand2a (t : Finish) (c : Cipher) : Type 0 where
+  pub gives : (key iv message r : List ℕ) (room : ℕ) → (seal t c key iv message room) .answer ≡ given r
+      → (r ≡ sealedRecord t c key iv message) × Gives (seal t c key iv message room) r r room
   pub seals : (key iv message : List ℕ) (room : ℕ) → NonzeroMask c key iv → KeyLength key → length iv ≡ 16 → length message ≤ longestMessage
-      → length (sealedRecord c key iv message) ≤ room → Gives (seal c key iv message room) (sealedRecord c key iv message) (sealedRecord c key iv message) room
+      → length (sealedRecord t c key iv message) ≤ room → Gives (seal t c key iv message room) (sealedRecord t c key iv message) (sealedRecord t c key iv message) room
   pub long : (key iv message : List ℕ) → KeyLength key → length iv ≡ 16
-      → length (sealedRecord c key iv message) ≡ 16 * (length message / 16 + 1) + 32
+      → length (sealedRecord t c key iv message) ≡ 16 * (length message / 16 + 1) + overhead t
 
 -- ---- DEMAND 2 (b). Opening gives the message m, its length, and m followed by zeros, exactly where m was sealed to that very record. It gives
 -- no other message, whatever was lent; and with as much output as there is ciphertext it gives m.
 
 -- sealing the message m under some IV, with room for this record, is not refused and gives this very record
-pub record SealedFrom (c : Cipher) (key sealed m : List ℕ) : Type 0 where
+pub record SealedFrom (t : Finish) (c : Cipher) (key sealed m : List ℕ) : Type 0 where
   pub iv : List ℕ
   pub iv-block : Block iv
   pub m-bytes : Bytes m
-  pub seals : (seal c key iv m (length sealed)) .answer ≡ given sealed
+  pub seals : (seal t c key iv m (length sealed)) .answer ≡ given sealed
 
-pub record Demand2b (c : Cipher) : Type 0 where
-  pub only-sealed : (key sealed m : List ℕ) (room : ℕ) → Key key → Bytes sealed → (openSealed c key sealed room) .answer ≡ given m
-      → SealedFrom c key sealed m × Gives (openSealed c key sealed room) m m room
-  pub all-sealed : (key sealed m : List ℕ) (room : ℕ) → Key key → length (cipherPart sealed) ≤ room → SealedFrom c key sealed m
-      → Gives (openSealed c key sealed room) m m room
+pub record Demand2b (t : Finish) (c : Cipher) : Type 0 where
+  pub only-sealed : (key sealed m : List ℕ) (room : ℕ) → Key key → Bytes sealed → (openSealed t c key sealed room) .answer ≡ given m
+      → SealedFrom t c key sealed m × Gives (openSealed t c key sealed room) m m room
+  pub all-sealed : (key sealed m : List ℕ) (room : ℕ) → Key key → length (cipherPart t sealed) ≤ room → SealedFrom t c key sealed m
+      → Gives (openSealed t c key sealed room) m m room
 
 -- ---- DEMAND 2 (c). The refusals are the table's: the rows of each call stand in its order, a number is returned exactly where its row holds
 -- and none above it does, and the answer is given exactly where none holds. Beside each call's rows stands what it then gives, by the formulas.
@@ -152,10 +163,10 @@ module _ (c : Cipher) where
       record { first = first; count = length blocks; preauthenticator = wordsOf ((stepTwo s key iv first blocks) .preauthenticator) }
 
   pub record Demand2c : Type 0 where
-    pub of-seal : (key iv message : List ℕ) (room : ℕ)
-        → DecidedInto (sealRows c key iv message room) (seal c key iv message room) (sealedRecord c key iv message) (sealedRecord c key iv message) room
-    pub of-open : (key sealed : List ℕ) (room : ℕ)
-        → DecidedInto (openRows c key sealed room) (openSealed c key sealed room) (orEmpty (unpadded (plaintextOf c key sealed))) (orEmpty (unpadded (plaintextOf c key sealed))) room
+    pub of-seal : (t : Finish) (key iv message : List ℕ) (room : ℕ)
+        → DecidedInto (sealRows t c key iv message room) (seal t c key iv message room) (sealedRecord t c key iv message) (sealedRecord t c key iv message) room
+    pub of-open : (t : Finish) (key sealed : List ℕ) (room : ℕ)
+        → DecidedInto (openRows t c key sealed room) (openSealed t c key sealed room) (orEmpty (unpadded (plaintextOf t c key sealed))) (orEmpty (unpadded (plaintextOf t c key sealed))) room
     pub of-seal-run : (key iv : List ℕ) (first : ℕ) (kind : Kind) (bytes : List ℕ) (room : ℕ)
         → DecidedInto (sealRunRows c key iv first kind bytes room) (sealRun inWords c key iv first kind bytes room)
         (stepTwoRecord plaintext key iv first (blocksOfRun kind bytes)) ((stepTwo plaintext key iv first (blocksOfRun kind bytes)) .output) room
@@ -169,21 +180,22 @@ module _ (c : Cipher) where
           preauthenticator = wordsOf (xorBytes (jump (r .count) (bytesOf (l .preauthenticator))) (bytesOf (r .preauthenticator)));
         })
     pub of-join-list : (rs : List RunRecord) → Decided (joinListRows inWords rs) (joinList inWords rs) (joinedAll inWords rs)
-    pub of-close : (key iv : List ℕ) (r : RunRecord)
-        → Decided (closeRows inWords c key iv r) (close inWords c key iv r) (tagFrom c key (bytesOf (r .preauthenticator)) (closingMask key iv r))
-    pub of-test : (key iv : List ℕ) (r : RunRecord) (tag : List ℕ) → Decided (testRows inWords c key iv r tag) (test inWords c key iv r tag) tt
+    pub of-close : (t : Finish) (key iv : List ℕ) (r : RunRecord)
+        → Decided (closeRows inWords c key iv r) (close inWords t c key iv r) (t .tagFrom c key (bytesOf (r .preauthenticator)) (closingMask key iv r))
+    pub of-test : (t : Finish) (key iv : List ℕ) (r : RunRecord) (tag : List ℕ) → Decided (testRows inWords t c key iv r tag) (test inWords t c key iv r tag) tt
     pub of-jump : (mask : List ℕ) (distance : ℤ) (room : ℕ)
         → DecidedInto (jumpRows mask distance room) (jumpMask mask distance room) (jumpBy distance mask) (jumpBy distance mask) room
+    pub of-sha1 : (text : List ℕ) (room : ℕ) → DecidedInto (sha1Rows text room) (sha1Text text room) (sha1 text) (sha1 text) room
 
 -- ---- DEMAND 2 (d). Where the start mask is not zero, the unbroken check passes a record exactly where opening, lent as much output as there is
 -- ciphertext, gives a message or 7.
 
-abbrev pub Demand2d : Cipher → Type 0
-Demand2d c =
-    (key sealed : List ℕ) → NonzeroMask c key (ivPart sealed) → KeyLength key → notSealed sealed ≡ false
-    → UnbrokenCheck c key sealed
-    ↔ (((m : List ℕ) × ((openSealed c key sealed (length (cipherPart sealed))) .answer ≡ given m))
-    ⊎ ((openSealed c key sealed (length (cipherPart sealed))) .answer ≡ refused 7))
+abbrev pub Demand2d : Finish → Cipher → Type 0
+Demand2d t c =
+    (key sealed : List ℕ) → NonzeroMask c key (ivPart sealed) → KeyLength key → notSealed t sealed ≡ false
+    → UnbrokenCheck t c key sealed
+    ↔ (((m : List ℕ) × ((openSealed t c key sealed (length (cipherPart t sealed))) .answer ≡ given m))
+    ⊎ ((openSealed t c key sealed (length (cipherPart t sealed))) .answer ≡ refused 7))
 
 -- ---- DEMAND 3. First what the formulas give.
 
@@ -193,7 +205,7 @@ module _ (c : Cipher) (s : Setting) where
   whole = unbroken c (sourceOf (s .work)) (s .key) (ivOf (s .work)) (allBlocks (s .work))
 
   unfoldable pub wholeTag : List ℕ
-  wholeTag = unbrokenTag c (sourceOf (s .work)) (s .key) (ivOf (s .work)) (allBlocks (s .work))
+  wholeTag = unbrokenTag (finishOf (s .work)) c (sourceOf (s .work)) (s .key) (ivOf (s .work)) (allBlocks (s .work))
 
   -- the formulas' record of the blocks of k segments from segment i
   unfoldable pub recordOfSegments : List Segment → ℕ → ℕ → RunRecord
@@ -225,17 +237,17 @@ module _ (c : Cipher) (m : Calls) where
   Expected s xs (joinPair i j) = ExpectedOfJoin s xs (i ∷ j ∷ []) (answerOf m s xs (joinPair i j))
   Expected s xs (joinMany is) = ExpectedOfJoin s xs is (answerOf m s xs (joinMany is))
 
-  -- Testing the single record: a tag of 16 bytes passes exactly when it is the unbroken one; of a sealed record that is checked, the
+  -- Testing the single record: a tag of the finish's length passes exactly when it is the unbroken one; of a sealed record that is checked, the
   -- tag passes exactly when the unbroken check passes it.
   unfoldable pub TestedAs : List ℕ → Work → RunRecord → Type 0
-  TestedAs key (sealing iv message) r =
-      (tag : List ℕ) → length tag ≡ 16 → (m .tests key iv r tag ≡ given tt) ↔ (unbrokenTag c plaintext key iv (blocksOf (padded message)) ≡ tag)
-  TestedAs key (checking sealed) r = (m .tests key (ivPart sealed) r (tagPart sealed) ≡ given tt) ↔ UnbrokenCheck c key sealed
+  TestedAs key (sealing t iv message) r =
+      (tag : List ℕ) → length tag ≡ t .tagLength → (m .tests t key iv r tag ≡ given tt) ↔ (unbrokenTag t c plaintext key iv (blocksOf (padded message)) ≡ tag)
+  TestedAs key (checking t sealed) r = (m .tests t key (ivPart sealed) r (tagPart t sealed) ≡ given tt) ↔ UnbrokenCheck t c key sealed
 
   -- The single record that has all blocks, and the ciphertext written on the way, are the unbroken ones.
   pub record Whole (s : Setting) (r : RunRecord) (bytes : List ℕ) : Type 0 where
     pub ciphertext-whole : bytes ≡ (whole c s) .output
-    pub closes-whole : m .closes (s .key) (ivOf (s .work)) r ≡ given (wholeTag c s)
+    pub closes-whole : m .closes (finishOf (s .work)) (s .key) (ivOf (s .work)) r ≡ given (wholeTag c s)
     pub tests-whole : TestedAs (s .key) (s .work) r
 
   -- Demand 3's conclusion, of a setting and a list of calls, which lead from the empty rack to the rack `xs`.
@@ -251,7 +263,7 @@ module _ (c : Cipher) (m : Calls) where
     -- once the rack is a single filled place: the ciphertexts in order, the closing tag and the test are the unbroken ones
     pub single : (rs : List Run) (r : RunRecord) (bytes : List ℕ) → xs ≡ recorded rs r bytes ∷ [] → Whole s r bytes
 
-  -- DEMAND 3, of any six calls: for every key, message or sealed record, and cut (s) whose start mask is not zero, and every list of calls that
+  -- DEMAND 3, of any six calls: for every key, finish, message or sealed record, and cut (s) whose start mask is not zero, and every list of calls that
   -- is allowed, from the empty rack.
   abbrev pub Demand3 : Type 0
   Demand3 =
@@ -260,10 +272,10 @@ module _ (c : Cipher) (m : Calls) where
 -- ---- beside demand 2
 
 -- what sealing gave is opened again, by whoever lends as much output as there is ciphertext
-abbrev pub OpensSealed : Cipher → Type 0
-OpensSealed c =
-    (key iv message r : List ℕ) (room lent : ℕ) → Key key → Block iv → Bytes message → (seal c key iv message room) .answer ≡ given r
-    → length r - 32 ≤ lent → Gives (openSealed c key r lent) message message lent
+abbrev pub OpensSealed : Finish → Cipher → Type 0
+OpensSealed t c =
+    (key iv message r : List ℕ) (room lent : ℕ) → Key key → Block iv → Bytes message → (seal t c key iv message room) .answer ≡ given r
+    → length r - overhead t ≤ lent → Gives (openSealed t c key r lent) message message lent
 
 -- ---- beside demand 2: RECORDS IN WORDS (ticket P12)
 
@@ -300,8 +312,8 @@ pub record SameIn (c : Cipher) (f g : Form) : Type 0 where
       → checkRun g c key iv first bytes ≡ mapAnswer (inForm f g) (checkRun f c key iv first bytes)
   pub of-join : (l r : f .Record) → Formed f l → Formed f r → joinTwo g (inForm f g l) (inForm f g r) ≡ mapAnswer (inForm f g) (joinTwo f l r)
   pub of-join-list : (rs : List (f .Record)) → EachFormed f rs → joinList g (map (inForm f g) rs) ≡ mapAnswer (inForm f g) (joinList f rs)
-  pub of-close : (key iv : List ℕ) (r : f .Record) → Formed f r → close g c key iv (inForm f g r) ≡ close f c key iv r
-  pub of-test : (key iv : List ℕ) (r : f .Record) (tag : List ℕ) → Formed f r → test g c key iv (inForm f g r) tag ≡ test f c key iv r tag
+  pub of-close : (t : Finish) (key iv : List ℕ) (r : f .Record) → Formed f r → close g t c key iv (inForm f g r) ≡ close f t c key iv r
+  pub of-test : (t : Finish) (key iv : List ℕ) (r : f .Record) (tag : List ℕ) → Formed f r → test g t c key iv (inForm f g r) tag ≡ test f t c key iv r tag
 
 -- The records in words are those in bytes, and the reverse. Every record whose words have 64 bits, and every one in bytes whose
 -- pre-authenticator is a block, is one that its form can hold.
@@ -327,18 +339,18 @@ pub record ZeroMask (c : Cipher) : Type 0 where
   pub no-other : (key iv : List ℕ) → Key key → Block iv → zeroMask c key iv ≡ true → iv ≡ zeroMaskIv c key
   -- every call that has a key and an IV refuses such a pair with 10, an empty run too, where no row above 10 holds; whatever is lent, and
   -- whatever the tag
-  pub of-seal : (key iv message : List ℕ) (room : ℕ) → zeroMask c key iv ≡ true → KeyLength key → length iv ≡ 16 → length message ≤ longestMessage
-      → Refuses (seal c key iv message room) 10 room
-  pub of-open : (key sealed : List ℕ) (room : ℕ) → zeroMask c key (ivPart sealed) ≡ true → KeyLength key → notSealed sealed ≡ false
-      → Refuses (openSealed c key sealed room) 10 room
+  pub of-seal : (t : Finish) (key iv message : List ℕ) (room : ℕ) → zeroMask c key iv ≡ true → KeyLength key → length iv ≡ 16 → length message ≤ longestMessage
+      → Refuses (seal t c key iv message room) 10 room
+  pub of-open : (t : Finish) (key sealed : List ℕ) (room : ℕ) → zeroMask c key (ivPart sealed) ≡ true → KeyLength key → notSealed t sealed ≡ false
+      → Refuses (openSealed t c key sealed room) 10 room
   pub of-seal-run : (key iv : List ℕ) (first : ℕ) (kind : Kind) (bytes : List ℕ) (room : ℕ) → zeroMask c key iv ≡ true → KeyLength key → length iv ≡ 16
       → unalignedRun kind bytes ≡ false → first + length (blocksOfRun kind bytes) ≤ limit → Refuses (sealRun inWords c key iv first kind bytes room) 10 room
   pub of-check-run : (key iv : List ℕ) (first : ℕ) (bytes : List ℕ) → zeroMask c key iv ≡ true → KeyLength key → length iv ≡ 16 → length bytes % 16 ≡ 0
       → first + length (blocksOf bytes) ≤ limit → checkRun inWords c key iv first bytes ≡ refused 10
-  pub of-close : (key iv : List ℕ) (r : RunRecord) → zeroMask c key iv ≡ true → KeyLength key → length iv ≡ 16 → r .first + r .count ≤ limit → notWhole inWords r ≡ false
-      → close inWords c key iv r ≡ refused 10
-  pub of-test : (key iv : List ℕ) (r : RunRecord) (tag : List ℕ) → zeroMask c key iv ≡ true → KeyLength key → length iv ≡ 16 → length tag ≡ 16
-      → r .first + r .count ≤ limit → notWhole inWords r ≡ false → test inWords c key iv r tag ≡ refused 10
+  pub of-close : (t : Finish) (key iv : List ℕ) (r : RunRecord) → zeroMask c key iv ≡ true → KeyLength key → length iv ≡ 16 → r .first + r .count ≤ limit → notWhole inWords r ≡ false
+      → close inWords t c key iv r ≡ refused 10
+  pub of-test : (t : Finish) (key iv : List ℕ) (r : RunRecord) (tag : List ℕ) → zeroMask c key iv ≡ true → KeyLength key → length iv ≡ 16 → length tag ≡ t .tagLength
+      → r .first + r .count ≤ limit → notWhole inWords r ≡ false → test inWords t c key iv r tag ≡ refused 10
 
 -- some rows without those of number n
 unfoldable pub without : ℕ → List (ℕ × Bool) → List (ℕ × Bool)
@@ -347,19 +359,19 @@ without n (row ∷ rows) = cond (eqb n (row .0)) (without n rows) (row ∷ witho
 
 -- For every other pair each call's whole outcome is the one that it had before row 10 was there.
 pub record AsBefore (c : Cipher) : Type 0 where
-  pub of-seal : (key iv message : List ℕ) (room : ℕ) → NonzeroMask c key iv
-      → seal c key iv message room ≡ outcomeBy (decide (without 10 (sealRows c key iv message room)) (sealedRecord c key iv message)) (sealedRecord c key iv message) room
-  pub of-open : (key sealed : List ℕ) (room : ℕ) → NonzeroMask c key (ivPart sealed)
-      → let message = orEmpty (unpadded (plaintextOf c key sealed)) in
-      openSealed c key sealed room ≡ outcomeBy (decide (without 10 (openRows c key sealed room)) message) message room
+  pub of-seal : (t : Finish) (key iv message : List ℕ) (room : ℕ) → NonzeroMask c key iv
+      → seal t c key iv message room ≡ outcomeBy (decide (without 10 (sealRows t c key iv message room)) (sealedRecord t c key iv message)) (sealedRecord t c key iv message) room
+  pub of-open : (t : Finish) (key sealed : List ℕ) (room : ℕ) → NonzeroMask c key (ivPart sealed)
+      → let message = orEmpty (unpadded (plaintextOf t c key sealed)) in
+      openSealed t c key sealed room ≡ outcomeBy (decide (without 10 (openRows t c key sealed room)) message) message room
   pub of-seal-run : (key iv : List ℕ) (first : ℕ) (kind : Kind) (bytes : List ℕ) (room : ℕ) → NonzeroMask c key iv
       → let blocks = blocksOfRun kind bytes in
       sealRun inWords c key iv first kind bytes room
       ≡ outcomeBy (decide (without 10 (sealRunRows c key iv first kind bytes room)) (runRecord inWords c plaintext key iv first blocks)) ((passFrom c plaintext key iv first blocks) .output) room
   pub of-check-run : (key iv : List ℕ) (first : ℕ) (bytes : List ℕ) → NonzeroMask c key iv
       → checkRun inWords c key iv first bytes ≡ decide (without 10 (checkRunRows c key iv first bytes)) (runRecord inWords c ciphertext key iv first (blocksOf bytes))
-  pub of-close : (key iv : List ℕ) (r : RunRecord) → NonzeroMask c key iv → close inWords c key iv r ≡ decide (without 10 (closeRows inWords c key iv r)) (closingTag inWords c key iv r)
-  pub of-test : (key iv : List ℕ) (r : RunRecord) (tag : List ℕ) → NonzeroMask c key iv → test inWords c key iv r tag ≡ decide (without 10 (testRows inWords c key iv r tag)) tt
+  pub of-close : (t : Finish) (key iv : List ℕ) (r : RunRecord) → NonzeroMask c key iv → close inWords t c key iv r ≡ decide (without 10 (closeRows inWords c key iv r)) (closingTag inWords t c key iv r)
+  pub of-test : (t : Finish) (key iv : List ℕ) (r : RunRecord) (tag : List ℕ) → NonzeroMask c key iv → test inWords t c key iv r tag ≡ decide (without 10 (testRows inWords t c key iv r tag)) tt
 
 -- ---- beside demand 2: THE SIGNED JUMP (ticket P1), of the outcome that the call's contract cites
 
@@ -416,13 +428,13 @@ pub record Done (c : Cipher) (key : List ℕ) (work : Work) (r : RunRecord) (byt
 abbrev pub NoDifference : Cipher → Type 0
 NoDifference c =
     (key : List ℕ) (work : Work) (r q : RunRecord) (bytes text : List ℕ) → Done c key work r bytes → Done c key work q text
-    → (bytes ≡ text) × (close inWords c key (ivOf work) r ≡ close inWords c key (ivOf work) q)
+    → (bytes ≡ text) × (close inWords (finishOf work) c key (ivOf work) r ≡ close inWords (finishOf work) c key (ivOf work) q)
 
 -- the IV, the runs' ciphertexts and the closing tag are what the call that seals the whole message gives
 abbrev pub SealedWhole : Cipher → Type 0
 SealedWhole c =
-    (key iv message bytes tag : List ℕ) (r : RunRecord) → Done c key (sealing iv message) r bytes → close inWords c key iv r ≡ given tag
-    → iv ++ bytes ++ tag ≡ sealedRecord c key iv message
+    (t : Finish) (key iv message bytes tag : List ℕ) (r : RunRecord) → Done c key (sealing t iv message) r bytes → close inWords t c key iv r ≡ given tag
+    → iv ++ bytes ++ tag ≡ sealedRecord t c key iv message
 
 -- checking a run's ciphertext gives the record that sealing it gave
 abbrev pub CheckedAsSealed : Cipher → Type 0

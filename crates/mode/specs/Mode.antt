@@ -1,4 +1,4 @@
--- The mode of document 01 (source documents 000 and 003), over any block cipher that is cut into two halves.
+-- The mode of document 01 (source documents 000 and 003), over any block cipher that is cut into two halves, with any finish.
 use mathlib.Core.Path.{_≡_}
 use mathlib.Core.List.{List, [], _∷_, _++_}
 use mathlib.Core.Bool.{cond}
@@ -8,8 +8,11 @@ use Rattle.blocks.specs.Bytes.{Bytes, Block, xorBytes, same, zeros, firstBlocks
 use Rattle.blocks.specs.Words.{bytesOf, wordsOf}
 use Rattle.gf128.specs.Gf128.{timesX}
 use Rattle.fips197.specs.Aes.{KeyLength, Key}
+use Rattle.sha1.specs.Sha1.{sha1}
 -- document 01's run record, as the code declares it: first, count, and the pre-authenticator in two words (ticket P12)
 pub use Rattle.mode.specs.declared.RunRecord.{RunRecord}
+use Rattle.mode.specs.declared.finish.Finish.{Finish as Named}
+use Rattle.mode.specs.declared.finish.Finish.the-variants.{Cipher as NamedCipher, Sha1 as NamedSha1}
 
 -- The cipher's two halves, each run forwards and backwards: key, then block.
 pub record Cipher : Type 0 where
@@ -33,6 +36,17 @@ pub record Lawful (c : Cipher) : Type 0 where
   pub secondHalf-undone : (key b : List ℕ) → Key key → Block b → c .secondHalfBack key (c .secondHalf key b) ≡ b
   pub secondHalfBack-undone : (key b : List ℕ) → Key key → Block b → c .secondHalf key (c .secondHalfBack key b) ≡ b
 
+-- THE FINISH (ticket P4): what makes a tag of the key, the pre-authenticator and the mask after the last block, over a cipher; and how many
+-- bytes a tag has.
+pub record Finish : Type 0 where
+  pub tagLength : ℕ
+  pub tagFrom : Cipher → List ℕ → List ℕ → List ℕ → List ℕ
+
+-- What the mode needs to know of it: its tags have that many bytes.
+pub record LawfulFinish (t : Finish) (c : Cipher) : Type 0 where
+  pub tag-long : (key preauthenticator mask : List ℕ) → KeyLength key → length preauthenticator ≡ 16 → length mask ≡ 16
+      → length (t .tagFrom c key preauthenticator mask) ≡ t .tagLength
+
 -- ---- bytes and blocks
 
 -- the blocks of a list of bytes
@@ -51,15 +65,19 @@ zeroBlock = zeros 16
 unfoldable pub keyBlock : List ℕ → List ℕ
 keyBlock key = take 16 key
 
+-- what a sealed record has beside the ciphertext: the IV and the tag
+abbrev pub overhead : Finish → ℕ
+overhead t = 16 + t .tagLength
+
 -- a sealed record's parts: the IV, the ciphertext and the tag
 unfoldable pub ivPart : List ℕ → List ℕ
 ivPart sealed = take 16 sealed
 
-unfoldable pub cipherPart : List ℕ → List ℕ
-cipherPart sealed = take (length sealed - 32) (drop 16 sealed)
+unfoldable pub cipherPart : Finish → List ℕ → List ℕ
+cipherPart t sealed = take (length sealed - overhead t) (drop 16 sealed)
 
-unfoldable pub tagPart : List ℕ → List ℕ
-tagPart sealed = drop (length sealed - 16) sealed
+unfoldable pub tagPart : Finish → List ℕ → List ℕ
+tagPart t sealed = drop (length sealed - t .tagLength) sealed
 
 -- ---- steps 1 to 3
 
@@ -144,12 +162,8 @@ module _ (c : Cipher) where
   unbroken s key iv blocks = pass s key blocks (startMask key iv) zeroBlock
 
   -- Step 3. The tag is the encryption of (pre-authenticator plus the mask after the last block), plus the pre-authenticator.
-  unfoldable pub tagFrom : List ℕ → List ℕ → List ℕ → List ℕ
-  tagFrom key preauthenticator mask = xorBytes (encrypt key (xorBytes preauthenticator mask)) preauthenticator
-
-  -- steps 1 to 3: the tag over all blocks, nothing cut
-  unfoldable pub unbrokenTag : Source → List ℕ → List ℕ → List (List ℕ) → List ℕ
-  unbrokenTag s key iv blocks = tagFrom key ((unbroken s key iv blocks) .preauthenticator) ((unbroken s key iv blocks) .mask)
+  unfoldable pub encryptedTag : List ℕ → List ℕ → List ℕ → List ℕ
+  encryptedTag key preauthenticator mask = xorBytes (encrypt key (xorBytes preauthenticator mask)) preauthenticator
 
   -- The record of consecutive blocks (`these`, which stand after the blocks `before`): the block they start at, their count and the
   -- pre-authenticator over them alone, begun from zero, with the masks that steps 1 and 2 give there when nothing is cut.
@@ -157,12 +171,36 @@ module _ (c : Cipher) where
   recordOf s key iv before these =
       inWords .make (length before) (length these) ((pass s key these ((unbroken s key iv before) .mask) zeroBlock) .preauthenticator)
 
+-- Step 3 with the hash finish (ticket P4; source document 000's H(K, A, R)): SHA-1 of the whole key, the pre-authenticator and the mask after
+-- the last block, in that order.
+unfoldable pub hashedTag : List ℕ → List ℕ → List ℕ → List ℕ
+hashedTag key preauthenticator mask = sha1 (key ++ preauthenticator ++ mask)
+
+-- THE TWO FINISHES: document 01's, by the cipher, and ticket P4's, by SHA-1
+abbrev pub byCipher : Finish
+byCipher = record { tagLength = 16; tagFrom = encryptedTag }
+
+abbrev pub bySha1 : Finish
+bySha1 = record { tagLength = 20; tagFrom = λ c. hashedTag }
+
+-- by the code's name for each
+abbrev pub finishNamed : Named → Finish
+finishNamed NamedCipher = byCipher
+finishNamed NamedSha1 = bySha1
+
+-- ---- whole lists, with any finish
+
+module _ (t : Finish) (c : Cipher) where
+  -- steps 1 to 3: the tag over all blocks, nothing cut
+  unfoldable pub unbrokenTag : Source → List ℕ → List ℕ → List (List ℕ) → List ℕ
+  unbrokenTag s key iv blocks = t .tagFrom c key ((unbroken c s key iv blocks) .preauthenticator) ((unbroken c s key iv blocks) .mask)
+
   -- the sealed record of a message: the IV, the ciphertext and the tag
   unfoldable pub sealedRecord : List ℕ → List ℕ → List ℕ → List ℕ
   sealedRecord key iv message =
-      iv ++ (unbroken plaintext key iv (blocksOf (padded message))) .output ++ unbrokenTag plaintext key iv (blocksOf (padded message))
+      iv ++ (unbroken c plaintext key iv (blocksOf (padded message))) .output ++ unbrokenTag plaintext key iv (blocksOf (padded message))
 
   -- The unbroken check: a sealed record (any bytes of a length that opening takes) passes exactly when steps 1 to 3 over all its
   -- ciphertext, under its IV, give its tag.
   unfoldable pub UnbrokenCheck : List ℕ → List ℕ → Type 0
-  UnbrokenCheck key sealed = unbrokenTag ciphertext key (ivPart sealed) (blocksOf (cipherPart sealed)) ≡ tagPart sealed
+  UnbrokenCheck key sealed = unbrokenTag ciphertext key (ivPart sealed) (blocksOf (cipherPart t sealed)) ≡ tagPart t sealed

@@ -7,34 +7,39 @@ use Prim.Native.Nat.{ℕ, zero, suc, _+_, _-_, _/_, _%_, _≤_, _<_}
 use lib.ListN.{length, take, drop, getD, set}
 use Rattle.blocks.specs.Bytes.{Bytes, concat}
 use Rattle.fips197.specs.Aes.{Key}
-use Rattle.mode.specs.Mode.{Source, plaintext, ciphertext, RunRecord, inWords, ivPart, cipherPart}
+use Rattle.mode.specs.Mode.{Finish, overhead, Source, plaintext, ciphertext, RunRecord, inWords, ivPart, cipherPart}
 use Rattle.mode.specs.Table.{Answer, refused, given, apart, longestMessage, longestSealed}
 use Rattle.mode.specs.Calls.{Kind, middle, last, blocksOfRun, Outcome, outcomeBy, blank, Calls}
 
 -- ---- the setting
 
--- what is cut: a message that is sealed under an IV, or the ciphertext of a sealed record that is checked
+-- what is cut: a message that is sealed under an IV, or the ciphertext of a sealed record that is checked; and the finish, which cuts know
+-- nothing of, but which says where a record's tag is
 pub data Work : Type 0 where
-  sealing : List ℕ → List ℕ → Work
-  checking : List ℕ → Work
+  sealing : Finish → List ℕ → List ℕ → Work
+  checking : Finish → List ℕ → Work
 
 unfoldable pub sourceOf : Work → Source
-sourceOf (sealing iv message) = plaintext
-sourceOf (checking sealed) = ciphertext
+sourceOf (sealing t iv message) = plaintext
+sourceOf (checking t sealed) = ciphertext
+
+unfoldable pub finishOf : Work → Finish
+finishOf (sealing t iv message) = t
+finishOf (checking t sealed) = t
 
 unfoldable pub ivOf : Work → List ℕ
-ivOf (sealing iv message) = iv
-ivOf (checking sealed) = ivPart sealed
+ivOf (sealing t iv message) = iv
+ivOf (checking t sealed) = ivPart sealed
 
 -- the bytes that are cut
 unfoldable pub textOf : Work → List ℕ
-textOf (sealing iv message) = message
-textOf (checking sealed) = cipherPart sealed
+textOf (sealing t iv message) = message
+textOf (checking t sealed) = cipherPart t sealed
 
 -- the last piece of a message carries the padding
 unfoldable pub lastKind : Work → Kind
-lastKind (sealing iv message) = last
-lastKind (checking sealed) = middle
+lastKind (sealing t iv message) = last
+lastKind (checking t sealed) = middle
 
 -- all blocks, nothing cut
 unfoldable pub allBlocks : Work → List (List ℕ)
@@ -42,8 +47,9 @@ allBlocks w = blocksOfRun (lastKind w) (textOf w)
 
 -- an IV of 16 bytes and a message within the limit; any bytes of a length that opening takes
 unfoldable pub Fits : Work → Type 0
-Fits (sealing iv message) = (length iv ≡ 16) × (length message ≤ longestMessage)
-Fits (checking sealed) = (48 ≤ length sealed) × (length sealed ≤ longestSealed) × (length sealed % 16 ≡ 0)
+Fits (sealing t iv message) = (length iv ≡ 16) × (length message ≤ longestMessage)
+Fits (checking t sealed) =
+    (16 + overhead t ≤ length sealed) × (length sealed ≤ longestSealed t) × ((length sealed - overhead t) % 16 ≡ 0)
 
 -- pieces, one or more, all multiples of 16 bytes but for a last one that carries the padding; empty ones are allowed
 unfoldable pub Cut : Kind → List (List ℕ) → Type 0
@@ -187,16 +193,16 @@ start s = empties (runsFrom (lastKind (s .work)) 0 (s .pieces))
 
 -- the output that a run is lent: checking takes none
 unfoldable pub roomOf : Work → ℕ → ℕ
-roomOf (sealing iv message) room = room
-roomOf (checking sealed) room = 0
+roomOf (sealing t iv message) room = room
+roomOf (checking t sealed) room = 0
 
 -- ---- what the calls do
 
 module _ (m : Calls) where
   -- what the call of a run comes to
   unfoldable pub outcomeOfRun : List ℕ → Work → Run → ℕ → Outcome RunRecord
-  outcomeOfRun key (sealing iv message) r room = m .seals-run key iv (r .first) (r .kind) (r .bytes) room
-  outcomeOfRun key (checking sealed) r room = outcomeBy (m .checks-run key (ivPart sealed) (r .first) (r .bytes)) [] 0
+  outcomeOfRun key (sealing t iv message) r room = m .seals-run key iv (r .first) (r .kind) (r .bytes) room
+  outcomeOfRun key (checking t sealed) r room = outcomeBy (m .checks-run key (ivPart sealed) (r .first) (r .bytes)) [] 0
 
   -- the run of segment i, as a call
   unfoldable pub runOutcome : Setting → List Segment → ℕ → ℕ → Outcome RunRecord

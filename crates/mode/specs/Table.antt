@@ -1,4 +1,4 @@
--- Why a list is refused: document 01's table, with ticket P8's row 1, and ticket P3's row 10 in it. A row is a number and whether its condition holds; the first row
+-- Why a list is refused: document 01's table, with ticket P8's row 1, ticket P4's row 3, and ticket P3's row 10 in it. A row is a number and whether its condition holds; the first row
 -- that holds, in the table's order, is the answer.
 use mathlib.Core.Path.{_≡_}
 use mathlib.Core.List.{List, [], _∷_, _++_}
@@ -8,7 +8,8 @@ use lib.ListN.{length}
 use lib.IntN.{ℤ, natAbs}
 use lib.Dec.{eqb, ltb}
 use Rattle.blocks.specs.Bytes.{same}
-use Rattle.mode.specs.Mode.{Cipher, Form, zeroBlock, startMask}
+use Rattle.sha1.specs.Sha1.{longestText}
+use Rattle.mode.specs.Mode.{Cipher, Finish, overhead, Form, zeroBlock, startMask}
 -- 1 (ticket P8): a key that is neither 16 bytes nor 32
 unfoldable pub use Rattle.fips197.specs.Aes.{notKey}
 
@@ -53,16 +54,17 @@ pub record Decides (rows : List (ℕ × Bool)) (n : ℕ) : Type 0 where
 abbrev pub limit : ℕ
 limit = 4000
 
--- so the longest message, whose padding fills the last block, has 63,999 bytes, and the longest sealed record 64,032
+-- so the longest message, whose padding fills the last block, has 63,999 bytes, and the longest sealed record 64,032, or 64,036 with the hash
+-- finish
 abbrev pub longestMessage : ℕ
 longestMessage = 16 * limit - 1
 
-abbrev pub longestSealed : ℕ
-longestSealed = 16 * limit + 32
+abbrev pub longestSealed : Finish → ℕ
+longestSealed t = 16 * limit + overhead t
 
 -- ---- the conditions
 
--- 2, and 3 of a tag or a mask: not 16 bytes
+-- 2, and 3 of a mask: not 16 bytes
 unfoldable pub not16 : List ℕ → Bool
 not16 bytes = not (eqb (length bytes) 16)
 
@@ -74,9 +76,20 @@ unaligned bytes = not (eqb (length bytes % 16) 0)
 unfoldable pub tooLong : List ℕ → Bool
 tooLong message = ltb longestMessage (length message)
 
--- 3: a sealed record below 48, above 64,032 or no multiple of 16
-unfoldable pub notSealed : List ℕ → Bool
-notSealed sealed = ltb (length sealed) 48 || (ltb longestSealed (length sealed) || unaligned sealed)
+-- 3: a tag that is not as long as the finish makes them
+unfoldable pub notTag : Finish → List ℕ → Bool
+notTag t tag = not (eqb (length tag) (t .tagLength))
+
+-- 3: a sealed record below the shortest, which has one block, above the longest, or of which IV and tag do not leave a multiple of 16. With 16
+-- bytes of tag: below 48, above 64,032 or no multiple of 16; with 20: below 52, above 64,036 or not 36 over a multiple of 16.
+unfoldable pub notSealed : Finish → List ℕ → Bool
+notSealed t sealed =
+    ltb (length sealed) (16 + overhead t)
+    || (ltb (longestSealed t) (length sealed) || not (eqb ((length sealed - overhead t) % 16) 0))
+
+-- 3 (ticket P4): a text to SHA-1 over 64,032 bytes
+unfoldable pub unhashable : List ℕ → Bool
+unhashable text = ltb longestText (length text)
 
 -- 4: first block plus count above the limit
 unfoldable pub beyond : ℕ → ℕ → Bool

@@ -1,7 +1,8 @@
 // Cipher-State mode as definitions (specs/), laws and the demands' theorems (proofs/), over any block cipher that is cut into two
 // halves. The calls stand above this crate. What they answer is declared here, so that the definitions speak of the very types; and
 // here is the join of two run records.
-pub mod power;
+pub mod finish; // finish.rt: what makes a tag
+pub mod power; // power.rt: a power of x that is kept
 
 use blocks::words::Words;
 use power::LastPower;
@@ -15,10 +16,10 @@ ghost use Rattle.mode.specs.Powers.{Keeps, Joinable, joinKeeping};
 // The most blocks that a list may have.
 pub const LIMIT: u64 = 4000;
 
-// So the longest message, whose padding fills the last block, and the longest sealed record.
-pub const LONGEST_MESSAGE: usize = 16 * LIMIT as usize - 1;
+// So the longest ciphertext, and the longest message, whose padding fills the last block.
+pub const LONGEST_CIPHERTEXT: usize = 16 * LIMIT as usize;
 
-pub const LONGEST_SEALED: usize = 16 * LIMIT as usize + 32;
+pub const LONGEST_MESSAGE: usize = LONGEST_CIPHERTEXT - 1;
 
 // Document 01's run record: the number of the run's first block, its block count, and the pre-authenticator of the run alone, in two words.
 pub struct RunRecord {
@@ -46,10 +47,10 @@ pub struct RecordAnswer {
     pub run: RunRecord,
 }
 
-// The refusal or 0, and a tag.
+// The refusal or 0, and a tag, with zeros behind it where it is shorter than the longest.
 pub struct TagAnswer {
     pub refusal: u8,
-    pub tag: [u8; 16],
+    pub tag: [u8; finish::LONGEST_TAG],
 }
 
 // The answer of a join, and the power of x that is kept for the next one.

@@ -8,6 +8,7 @@ use case_tools::open::answers;
 use case_tools::paper;
 use case_tools::random::noise;
 use mode::TagAnswer;
+use mode::finish::Finish;
 
 // A record of noise, which no tag fits.
 pub fn noise_refused(key: usize, sealed: usize, room: usize, refusal: u8) -> usize
@@ -57,7 +58,7 @@ fn seal_whole(message: &[u8], out: &mut [u8]) -> usize {
     noise(out);
     let key = paper::key();
     let iv = paper::iv();
-    let w = calls::seal::seal(&key, &iv, message, out);
+    let w = calls::seal::seal(Finish::Cipher, &key, &iv, message, out);
     let size = message.len() / 16 * 16 + 48;
     if written(w, 0, size, out) { size } else { 0 }
 }
@@ -106,10 +107,10 @@ fn seal_blocks(text: &[u8], out: &mut [u8]) -> TagAnswer {
     if !written(of_run(a), 0, text.len(), out) {
         return TagAnswer {
             refusal: NO_ANSWER,
-            tag: [0u8; 16],
+            tag: [0u8; mode::finish::LONGEST_TAG],
         };
     }
-    tags::record::close(&key, &iv, a.run)
+    tags::record::close(Finish::Cipher, &key, &iv, a.run)
 }
 
 // The IV, the ciphertext of whole blocks through a middle run, and the closing tag, in an output that held noise. The answer is the
@@ -130,7 +131,7 @@ fn put_together(text: &[u8], sealed: &mut [u8]) -> usize {
         return 0;
     }
     let tag = closed.tag;
-    blocks::block::store(sealed, stop, tag);
+    tags::tag::put(Finish::Cipher, tag, sealed, stop);
     size
 }
 

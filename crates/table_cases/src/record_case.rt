@@ -7,9 +7,11 @@ use case_tools::bytes::gives_tag;
 use case_tools::bytes::one_if;
 use case_tools::bytes::record;
 use case_tools::bytes::refuses;
+use case_tools::bytes::refuses_tag;
 use case_tools::hex::block;
 use case_tools::paper;
 use mode::RunRecord;
+use mode::finish::Finish;
 
 // A record made by hand.
 fn made(first: u32, count: u32) -> RunRecord {
@@ -79,9 +81,13 @@ pub fn close_refused(key: usize, iv: usize, first: u32, count: u32, refusal: u8)
 {
     let keys = lengthened(paper::key());
     let ivs = lengthened(paper::iv());
-    let a = tags::record::close(&keys[0..key], &ivs[0..iv], made(first, count));
-    let tag = a.tag;
-    one_if((a.refusal == refusal) & blocks::block::equal(tag, [0u8; 16]))
+    let a = tags::record::close(
+        Finish::Cipher,
+        &keys[0..key],
+        &ivs[0..iv],
+        made(first, count),
+    );
+    one_if(refuses_tag(a, refusal))
 }
 
 pub fn closed(count: u32) -> usize
@@ -90,8 +96,8 @@ pub fn closed(count: u32) -> usize
     let key = paper::key();
     let iv = paper::iv();
     one_if(gives_tag(
-        tags::record::close(&key, &iv, made(0, count)),
-        reference::tag(count),
+        tags::record::close(Finish::Cipher, &key, &iv, made(0, count)),
+        &reference::tag(count),
     ))
 }
 
@@ -115,7 +121,13 @@ fn test_answers(
     let ivs = lengthened(paper::iv());
     let mut tag = lengthened(reference::tag(run.count));
     flip(&mut tag, 15, if flipped { 1 } else { 0 });
-    let answer = tags::record::test(&keys[0..key], &ivs[0..iv], run, &tag[0..size]);
+    let answer = tags::record::test(
+        Finish::Cipher,
+        &keys[0..key],
+        &ivs[0..iv],
+        run,
+        &tag[0..size],
+    );
     one_if(answer == refusal)
 }
 

@@ -4,6 +4,7 @@ ghost use lib.ListN.{length};
 use case_tools::bytes::one_if;
 use case_tools::bytes::written;
 use case_tools::random::noise;
+use mode::finish::Finish;
 
 // The answer in an output that held noise. `bytes` serves for all that is handed in.
 fn answers(
@@ -21,7 +22,13 @@ fn answers(
     ensures { λ r. ⌜ r ≤ 1 ⌝ }
 {
     noise(out);
-    let w = calls::seal::seal(&bytes[0..key], &bytes[0..iv], &bytes[0..message], out);
+    let w = calls::seal::seal(
+        Finish::Cipher,
+        &bytes[0..key],
+        &bytes[0..iv],
+        &bytes[0..message],
+        out,
+    );
     one_if(written(w, refusal, size, out))
 }
 

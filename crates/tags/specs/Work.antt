@@ -5,9 +5,9 @@ use mathlib.Core.List.{List, [], _∷_}
 use Prim.Native.Nat.{ℕ}
 use Rattle.cipher.specs.Keys.{Expands}
 use Rattle.mode.specs.declared.RunRecord.{RunRecord}
-use Rattle.mode.specs.Mode.{startMask, inWords}
+use Rattle.mode.specs.Mode.{Finish, startMask, inWords}
 use Rattle.mode.specs.Aes.{aes}
-use Rattle.mode.specs.Table.{notKey, not16, beyond, notWhole, zeroMask}
+use Rattle.mode.specs.Table.{notKey, not16, notTag, beyond, notWhole, zeroMask}
 
 -- a key schedule and a start mask
 pub record Prepares (key iv keys start : List ℕ) : Type 0 where
@@ -19,5 +19,5 @@ abbrev pub recordRows : List ℕ → List ℕ → RunRecord → List (ℕ × Boo
 recordRows key iv r = (4, beyond (r .first) (r .count)) ∷ (9, notWhole inWords r) ∷ (10, zeroMask aes key iv) ∷ []
 
 -- the rows of a test that stand before 6
-abbrev pub testFirstRows : List ℕ → List ℕ → RunRecord → List ℕ → List (ℕ × Bool)
-testFirstRows key iv r tag = (1, notKey key) ∷ (2, not16 iv) ∷ (3, not16 tag) ∷ recordRows key iv r
+abbrev pub testFirstRows : Finish → List ℕ → List ℕ → RunRecord → List ℕ → List (ℕ × Bool)
+testFirstRows t key iv r tag = (1, notKey key) ∷ (2, not16 iv) ∷ (3, notTag t tag) ∷ recordRows key iv r

@@ -1,8 +1,8 @@
-// Document 01, steps 1 and 3.
+// Document 01, steps 1 and 3, by the cipher.
 use blocks::words::Words;
 ghost use mathlib.Core.Path.{_≡_};
 ghost use Rattle.blocks.specs.Words.{bytesOf};
-ghost use Rattle.mode.specs.Mode.{startMask, tagFrom};
+ghost use Rattle.mode.specs.Mode.{startMask, encryptedTag};
 ghost use Rattle.mode.specs.Aes.{aes};
 ghost use Rattle.cipher.specs.Keys.{keyOf, Expanded};
 
@@ -23,9 +23,9 @@ pub fn start_mask(iv: [u8; 16], keys: &[u8; cipher::KEYS]) -> Words
 }
 
 // Step 3: the encryption of (pre-authenticator plus the mask after the last block), plus the pre-authenticator.
-pub fn tag(preauthenticator: Words, mask: Words, keys: &[u8; cipher::KEYS]) -> [u8; 16]
+pub fn encrypted_tag(preauthenticator: Words, mask: Words, keys: &[u8; cipher::KEYS]) -> [u8; 16]
     requires { ⌜ Expanded (now keys) ⌝ }
-    ensures { λ r. ⌜ r ≡ tagFrom aes (keyOf (now (keys .entry))) (bytesOf preauthenticator) (bytesOf mask) ⌝ }
+    ensures { λ r. ⌜ r ≡ encryptedTag aes (keyOf (now (keys .entry))) (bytesOf preauthenticator) (bytesOf mask) ⌝ }
 {
     let sum = blocks::words::xor(preauthenticator, mask);
     let block = blocks::words::to_bytes(sum);

@@ -1,13 +1,14 @@
 // Close a record, test a tag.
 use mode::RunRecord;
 use mode::TagAnswer;
+use mode::finish::Finish;
 ghost use mathlib.Core.Path.{_≡_};
 ghost use lib.ListN.{length};
 ghost use Rattle.fips197.specs.Aes.{KeyLength};
-ghost use Rattle.mode.specs.Mode.{inWords};
+ghost use Rattle.mode.specs.Mode.{inWords, finishNamed};
 ghost use Rattle.mode.specs.Aes.{aes};
 ghost use Rattle.mode.specs.Table.{firstRow};
-ghost use Rattle.mode.specs.Calls.{closeRows, closingTag, close as closeOf, test as testOf, tagAnswerOf, number};
+ghost use Rattle.mode.specs.Calls.{closeRows, closingTag, heldTag, close as closeOf, test as testOf, tagAnswerOf, number};
 ghost use Rattle.tags.specs.Work.{recordRows, testFirstRows};
 
 // The first of the rows 4, 9 and 10 that holds of a record that is to be closed, or 0.
@@ -45,8 +46,8 @@ fn close_refusal(key: &[u8], iv: &[u8], run: RunRecord) -> u8
 }
 
 // The first of the rows that stand before 6, or 0.
-fn test_refusal(key: &[u8], iv: &[u8], run: RunRecord, tag: &[u8]) -> u8
-    ensures { λ n. ⌜ n ≡ firstRow (testFirstRows (now (key .entry)) (now (iv .entry)) run (now (tag .entry))) ⌝ }
+fn test_refusal(finish: Finish, key: &[u8], iv: &[u8], run: RunRecord, tag: &[u8]) -> u8
+    ensures { λ n. ⌜ n ≡ firstRow (testFirstRows (finishNamed finish) (now (key .entry)) (now (iv .entry)) run (now (tag .entry))) ⌝ }
 {
     if cipher::not_key(key) {
         return 1;
@@ -54,52 +55,56 @@ fn test_refusal(key: &[u8], iv: &[u8], run: RunRecord, tag: &[u8]) -> u8
     if iv.len() != 16 {
         return 2;
     }
-    if tag.len() != 16 {
+    if tag.len() != mode::finish::tag_length(finish) {
         return 3;
     }
     record_refusal(key, iv, run)
 }
 
 // The tag of a whole record: the start mask is jumped by the count.
-fn closing_tag(key: &[u8], iv: &[u8], run: RunRecord) -> [u8; 16]
+fn closing_tag(
+    finish: Finish,
+    key: &[u8],
+    iv: &[u8],
+    run: RunRecord,
+) -> [u8; mode::finish::LONGEST_TAG]
     requires { ⌜ KeyLength (now key) ⌝ }
     requires { ⌜ length (now iv) ≡ 16 ⌝ }
-    ensures { λ t. ⌜ t ≡ closingTag inWords aes (now (key .entry)) (now (iv .entry)) run ⌝ }
+    ensures { λ t. ⌜ t ≡ heldTag (closingTag inWords (finishNamed finish) aes (now (key .entry)) (now (iv .entry)) run) ⌝ }
 {
     let p = crate::prepare::prepare(key, iv);
     let keys = p.keys;
     let start = p.start;
     let mask = gf128::jump(start, run.count);
     let preauthenticator = run.preauthenticator;
-    crate::mask::tag(preauthenticator, mask, &keys)
+    crate::tag::tag(finish, key, preauthenticator, mask, &keys)
 }
 
 // CLOSE a record into its tag.
-pub fn close(key: &[u8], iv: &[u8], run: RunRecord) -> TagAnswer
-    ensures { λ a. ⌜ a ≡ tagAnswerOf (closeOf inWords aes (now (key .entry)) (now (iv .entry)) run) ⌝ }
+pub fn close(finish: Finish, key: &[u8], iv: &[u8], run: RunRecord) -> TagAnswer
+    ensures { λ a. ⌜ a ≡ tagAnswerOf (closeOf inWords (finishNamed finish) aes (now (key .entry)) (now (iv .entry)) run) ⌝ }
 {
     let refusal = close_refusal(key, iv, run);
     if refusal != 0 {
         return TagAnswer {
             refusal,
-            tag: [0u8; 16],
+            tag: [0u8; mode::finish::LONGEST_TAG],
         };
     }
-    let tag = closing_tag(key, iv, run);
+    let tag = closing_tag(finish, key, iv, run);
     TagAnswer { refusal: 0, tag }
 }
 
 // TEST a tag against a record: 0 where closing gives that tag, or the number of the refusal.
-pub fn test(key: &[u8], iv: &[u8], run: RunRecord, tag: &[u8]) -> u8
-    ensures { λ n. ⌜ n ≡ number (testOf inWords aes (now (key .entry)) (now (iv .entry)) run (now (tag .entry))) ⌝ }
+pub fn test(finish: Finish, key: &[u8], iv: &[u8], run: RunRecord, tag: &[u8]) -> u8
+    ensures { λ n. ⌜ n ≡ number (testOf inWords (finishNamed finish) aes (now (key .entry)) (now (iv .entry)) run (now (tag .entry))) ⌝ }
 {
-    let refusal = test_refusal(key, iv, run, tag);
+    let refusal = test_refusal(finish, key, iv, run, tag);
     if refusal != 0 {
         return refusal;
     }
-    let closed = closing_tag(key, iv, run);
-    let given = blocks::block::load(tag, 0);
-    if blocks::block::equal(closed, given) {
+    let closed = closing_tag(finish, key, iv, run);
+    if crate::tag::is_tag(closed, tag) {
         return 0;
     }
     6

@@ -2,6 +2,7 @@
 // ciphertext block and the tag. For any other length of input, or where a call is refused, it prints nothing.
 use blocks::words::Words;
 use blocks::words::to_bytes;
+use mode::finish::Finish;
 
 // The digit of the low four bits, in upper case.
 fn digit(x: u8) -> u8 {
@@ -32,6 +33,11 @@ fn start_mask(key: [u8; 16], iv: [u8; 16]) -> Words {
     tags::mask::start_mask(iv, &keys)
 }
 
+// The tag of document 01's finish, without the zeros behind it.
+fn tag_block(tag: [u8; mode::finish::LONGEST_TAG]) -> [u8; 16] {
+    blocks::block::load(&tag, 0)
+}
+
 // The block goes through a middle run at block 0. The pre-authenticator of one block is its middletext.
 fn show(key: [u8; 16], iv: [u8; 16], block: [u8; 16]) {
     let mut out = [0u8; 16];
@@ -40,7 +46,7 @@ fn show(key: [u8; 16], iv: [u8; 16], block: [u8; 16]) {
         return;
     }
     let run = sealed.run;
-    let closed = tags::record::close(&key, &iv, run);
+    let closed = tags::record::close(Finish::Cipher, &key, &iv, run);
     if closed.refusal != 0 {
         return;
     }
@@ -49,7 +55,7 @@ fn show(key: [u8; 16], iv: [u8; 16], block: [u8; 16]) {
     print_line(b"R1", to_bytes(start_mask(key, iv)));
     print_line(b"T1", to_bytes(middletext));
     print_line(b"C1", out);
-    print_line(b"AUTH", tag);
+    print_line(b"AUTH", tag_block(tag));
 }
 
 // The buffer is larger than the input may be, so that a longer input shows.

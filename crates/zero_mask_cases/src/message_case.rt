@@ -7,13 +7,14 @@ use case_tools::bytes::written;
 use case_tools::hex::bytes_at;
 use case_tools::open::answers;
 use case_tools::random::noise;
+use mode::finish::Finish;
 
 // In an output that held noise.
 fn seal_answers(key: &[u8], iv: &[u8], message: &[u8], out: &mut [u8], refusal: u8) -> usize
     ensures { λ r. ⌜ r ≤ 1 ⌝ }
 {
     noise(out);
-    let w = calls::seal::seal(key, iv, message, out);
+    let w = calls::seal::seal(Finish::Cipher, key, iv, message, out);
     one_if(written(w, refusal, 0, out))
 }
 

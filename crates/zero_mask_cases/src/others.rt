@@ -8,6 +8,7 @@ use case_tools::bytes::written;
 use case_tools::hex::bytes_at;
 use case_tools::open::answers;
 use case_tools::random::noise;
+use mode::finish::Finish;
 
 // The record of a message, in digits: sealed and opened again.
 fn both_ways(key: &[u8], iv: [u8; 16], digits: &[u8; 128]) -> usize
@@ -18,7 +19,7 @@ fn both_ways(key: &[u8], iv: [u8; 16], digits: &[u8; 128]) -> usize
     let message = b"twenty bytes of list";
     let mut sealed = [0u8; 80];
     noise(&mut sealed);
-    let w = calls::seal::seal(key, &iv, message, &mut sealed);
+    let w = calls::seal::seal(Finish::Cipher, key, &iv, message, &mut sealed);
     let mut out = [0u8; 64];
     one_if(answered(w, 0, &record, &sealed)) + answers(key, &record, &mut out, 0, message)
 }
@@ -87,7 +88,7 @@ fn empty_gets(iv: [u8; 16], refusal: u8, size: usize) -> usize
     let key = pair::half_zero();
     let mut out = [0u8; 64];
     noise(&mut out);
-    let w = calls::seal::seal(&key, &iv, b"", &mut out);
+    let w = calls::seal::seal(Finish::Cipher, &key, &iv, b"", &mut out);
     one_if(written(w, refusal, size, &out))
 }
 
@@ -108,7 +109,7 @@ fn sealed(key: usize, iv: [u8; 16]) -> usize
     let zeros = [0u8; 32];
     let mut out = [0u8; 64];
     noise(&mut out);
-    let w = calls::seal::seal(&zeros[0..key], &iv, b"", &mut out);
+    let w = calls::seal::seal(Finish::Cipher, &zeros[0..key], &iv, b"", &mut out);
     one_if(written(w, 0, 48, &out))
 }
 

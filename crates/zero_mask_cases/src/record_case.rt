@@ -4,8 +4,10 @@ use crate::pair;
 use case_tools::bytes::flip;
 use case_tools::bytes::one_if;
 use case_tools::bytes::record;
+use case_tools::bytes::refuses_tag;
 use case_tools::hex::block;
 use mode::RunRecord;
+use mode::finish::Finish;
 
 fn made(first: u32, count: u32) -> RunRecord {
     record(first, count, block(b"5BD1E995C6EF3720A54FF53A1F83D9AB"))
@@ -18,9 +20,13 @@ pub fn close_refused(key: usize, iv: usize, first: u32, count: u32, refusal: u8)
 {
     let keys = [0u8; 32];
     let ivs = pair::ivs(key);
-    let a = tags::record::close(&keys[0..key], &ivs[0..iv], made(first, count));
-    let tag = a.tag;
-    one_if((a.refusal == refusal) & blocks::block::equal(tag, [0u8; 16]))
+    let a = tags::record::close(
+        Finish::Cipher,
+        &keys[0..key],
+        &ivs[0..iv],
+        made(first, count),
+    );
+    one_if(refuses_tag(a, refusal))
 }
 
 // The tag that step 3 gives of such a record under the pair of a zero key of this length, whatever its count, as vectors/make-mode-vectors prints
@@ -54,6 +60,12 @@ pub fn test_refused(
     let ivs = pair::ivs(key);
     let mut all = tags(key);
     flip(&mut all, 15, changed);
-    let answer = tags::record::test(&keys[0..key], &ivs[0..iv], made(first, count), &all[0..tag]);
+    let answer = tags::record::test(
+        Finish::Cipher,
+        &keys[0..key],
+        &ivs[0..iv],
+        made(first, count),
+        &all[0..tag],
+    );
     one_if(answer == refusal)
 }

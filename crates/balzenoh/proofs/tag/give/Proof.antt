@@ -1,9 +1,12 @@
 -- Refused, or stored in front of zeros.
 use borrow.Author.Needs.{needs}
-use mathlib.Core.Path.{_≡_, sym, ap, _∙_}
+use mathlib.Core.Path.{_≡_, sym, ap₂, _∙_}
 use Prim.Native.Nat.{ℕ}
 use native.Mathlib.Omega.{arith}
-use lib.ListN.{length}
+use lib.ListN.{length, take}
+use lib.Seq.{length-take-le}
+use Rattle.mode.specs.Mode.{finishNamed}
+use Rattle.mode.proofs.Finishes.{tag-within}
 use Rattle.mode.specs.Table.{firstRow}
 use Rattle.blocks.proofs.Zeros.{stored-front}
 use Rattle.balzenoh.specs.Exports.{lentRows}
@@ -11,17 +14,25 @@ use Rattle.balzenoh.proofs.Lent.{room-there, lent-refused, lent-given}
 use Rattle.balzenoh.proofs.tag.give.Statement.{statement}
 use Rattle.balzenoh.proofs.tag.give.Tie as tie
 
--- the rows, at the length that was lent
-at-room : (c : tie.After-refusal) → let a = c .before .before .before .before .before .before .args in c .refusal .result ≡ firstRow (lentRows (a .answer .refusal) (length (a .out .now)) 16)
+-- the rows, at the length that was lent and for a tag of the finish
+at-room : (c : tie.After-refusal) → let a = c .before .before .before .before .before .before .before .args in
+    c .refusal .result ≡ firstRow (lentRows (a .answer .refusal) (length (a .out .now)) ((finishNamed (a .finish)) .tagLength))
 at-room c =
-    let a = c .before .before .before .before .before .before .args in
-    c .refusal .ensures ∙ ap (λ (k : ℕ). firstRow (lentRows (a .answer .refusal) k 16)) (c .before .before .before .clear .kept .0)
+    let a = c .before .before .before .before .before .before .before .args in
+    c .refusal .ensures
+    ∙ ap₂ (λ (k n : ℕ). firstRow (lentRows (a .answer .refusal) k n)) (c .before .before .before .before .clear .kept .0) (c .before .tag-length .ensures)
 
-long : (c : tie.Start) → length (c .args .answer .tag) ≡ 16
-long c = search needs
+-- the tag without the zeros behind it
+long : (c : tie.Start) → length (take ((finishNamed (c .args .finish)) .tagLength) (c .args .answer .tag)) ≡ (finishNamed (c .args .finish)) .tagLength
+long c =
+    let held : length (c .args .answer .tag) ≡ 20 = search needs in
+    length-take-le ((finishNamed (c .args .finish)) .tagLength) (c .args .answer .tag) (omega (arith, held, tag-within (c .args .finish)))
 
 clear-requires : tie.Need-clear-requires
 clear-requires c κs = search needs
+
+tag-length-requires : tie.Need-tag-length-requires
+tag-length-requires c κs = search needs
 
 refusal-requires : tie.Need-refusal-requires
 refusal-requires c κs = search needs
@@ -31,32 +42,43 @@ same-length c = search needs
 
 returns : tie.Need-returns
 returns c =
-    let a = c .before .before .before .before .before .before .before .args in
-    lent-refused (a .answer .refusal) 16 (a .answer .tag) (length (a .out .now)) (c .before .refusal .result) (c .before .before .before .before .clear .last .0) (at-room (c .before)) (c .if1 .taken) (c .before .before .before .before .clear .ensures)
+    let r = c .before in
+    let a = r .before .before .before .before .before .before .before .args in
+    let size = (finishNamed (a .finish)) .tagLength in
+    let k = r .before .before .before .before in
+    lent-refused (a .answer .refusal) size (take size (a .answer .tag)) (length (a .out .now)) (r .refusal .result) (k .clear .last .0) (at-room r) (c .if1 .taken) (k .clear .ensures)
 
-store-requires : tie.Need-store-requires
-store-requires c κs =
-    let a = c .before .before .before .before .before .before .before .before .before .args in
-    omega (arith, c .before .before .before .before .before .before .clear .kept .0, room-there (a .answer .refusal) (length (a .out .now)) 16 (sym (at-room (c .before .before .before)) ∙ c .before .before .if1 .left))
+put-requires : tie.Need-put-requires
+put-requires c κs =
+    let l = c .before .before in
+    let r = l .before in
+    let a = r .before .before .before .before .before .before .before .args in
+    omega (arith, r .before .before .before .before .clear .kept .0, room-there (a .answer .refusal) (length (a .out .now)) ((finishNamed (a .finish)) .tagLength) (sym (at-room r) ∙ l .if1 .left))
 
 same-length-2 : tie.Need-same-length-2
 same-length-2 c = search needs
 
 returns-2 : tie.Need-returns-2
 returns-2 c =
-    let a = c .before .before .before .before .before .before .before .before .before .before .before .before .args in
+    let l = c .before .before .before .before .before in
+    let r = l .before in
+    let k = r .before .before .before .before in
+    let s = k .before .before .before in
+    let a = s .args in
+    let size = (finishNamed (a .finish)) .tagLength in
     let room = length (a .out .now) in
-    let none = sym (at-room (c .before .before .before .before .before .before)) ∙ c .before .before .before .before .before .if1 .left in
-    lent-given (a .answer .refusal) 16 (a .answer .tag) room (c .before .before .store .last .0) (long (c .before .before .before .before .before .before .before .before .before .before .before .before)) none (stored-front (c .before .before .before .before .before .before .before .before .before .clear .last .0) (c .before .before .store .last .0) (a .answer .tag) room (c .before .before .before .before .before .before .before .before .before .clear .ensures) (c .before .before .store .ensures))
+    lent-given (a .answer .refusal) size (take size (a .answer .tag)) room (c .before .before .put .last .1 .1 .0) (long s) (sym (at-room r) ∙ l .if1 .left)
+    (stored-front size (k .clear .last .0) (c .before .before .put .last .1 .1 .0) (take size (a .answer .tag)) room (k .clear .ensures) (c .before .before .put .ensures))
 
 pub give-spec : {M : Type 1} → statement M
 give-spec =
     tie.close
     (tie.spec
     clear-requires
+    tag-length-requires
     refusal-requires
     same-length
     returns
-    store-requires
+    put-requires
     same-length-2
     returns-2)

@@ -3,6 +3,7 @@ use borrow.Author.Needs.{needs}
 use mathlib.Core.Path.{sym, ap, _∙_}
 use Prim.Native.Nat.{ℕ, _-_}
 use lib.ListN.{length}
+use Rattle.mode.specs.Mode.{finishNamed}
 use Rattle.mode.specs.Aes.{aes}
 use Rattle.mode.specs.Table.{firstRow}
 use Rattle.mode.specs.Calls.{openSealed, writtenOf}
@@ -28,8 +29,8 @@ returns c =
     let a = c .before .before .before .before .before .before .before .before .before .args in
     let room = length (a .out .now) in
     let x = c .before .open-refusal in
-    let e = x .ensures ∙ ap (λ (n : ℕ). firstRow (openFirstRows (a .key .now) (a .sealed .now) n)) (c .before .before .before .before .clear .kept .0) in
-    let d = lengths-refused (a .key .now) (a .sealed .now) room (x .result) e (c .if1 .taken) in
+    let e = x .ensures ∙ ap (λ (n : ℕ). firstRow (openFirstRows (finishNamed (a .finish)) (a .key .now) (a .sealed .now) n)) (c .before .before .before .before .clear .kept .0) in
+    let d = lengths-refused (finishNamed (a .finish)) (a .key .now) (a .sealed .now) room (x .result) e (c .if1 .taken) in
     (refused-written _ _ room (x .result) d, c .before .before .before .before .clear .ensures ∙ refused-output _ _ room (x .result) d)
 
 open-into-requires : tie.Need-open-into-requires
@@ -45,8 +46,8 @@ returns-2 c =
     let a = c .before .before .before .before .before .before .before .before .before .before .before .before .before .args in
     let k = c .before .before .before .before .before .before .before .before .clear .kept .0 in
     let y = c .before .before .open-into in (
-      y .ensures .0 ∙ ap (λ (n : ℕ). writtenOf (openSealed aes (a .key .now) (a .sealed .now) n)) k,
-      y .ensures .1 ∙ ap (λ (n : ℕ). (openSealed aes (a .key .now) (a .sealed .now) n) .output) k,
+      y .ensures .0 ∙ ap (λ (n : ℕ). writtenOf (openSealed (finishNamed (a .finish)) aes (a .key .now) (a .sealed .now) n)) k,
+      y .ensures .1 ∙ ap (λ (n : ℕ). (openSealed (finishNamed (a .finish)) aes (a .key .now) (a .sealed .now) n) .output) k,
     )
 
 pub open-spec : {M : Type 1} → statement M

@@ -2,14 +2,19 @@
 use borrow.Author.Needs.{needs}
 use borrow.Author.Tests.{le-ltb, lt-ltb}
 use mathlib.Core.Path.{_≡_, sym, _∙_}
-use Prim.Native.Nat.{_-_}
+use mathlib.Core.Bool.{Bool, false}
+use mathlib.Core.List.{List, _∷_}
+use Prim.Native.Nat.{ℕ, _+_, _-_, _≤_}
 use native.Mathlib.Omega.{arith}
 use lib.ListN.{length, take}
 use lib.Seq.{length-take-le}
-use Rattle.mode.specs.Mode.{ivPart, cipherPart}
 use Rattle.fips197.proofs.Keys.{has-key}
-use Rattle.mode.proofs.Rows.{row-holds, row-passes, no-row, sealed-short, sealed-long, sealed-misaligned}
-use Rattle.mode.proofs.Demand2.{lengths-sealed}
+use Rattle.mode.specs.Mode.{finishNamed, overhead, ivPart, cipherPart}
+use Rattle.mode.specs.Aes.{aes}
+use Rattle.mode.specs.Table.{firstRow, notKey, notSealed, zeroMask}
+use Rattle.mode.specs.Parallel.{Fits}
+use Rattle.mode.proofs.Rows.{row-holds, row-passes, no-row}
+use Rattle.mode.proofs.Demand2.{sealed-lengths}
 use Rattle.mode.proofs.Demand3.{cipher-length}
 use Rattle.calls.proofs.open.open_refusal.Statement.{statement}
 use Rattle.calls.proofs.open.open_refusal.Tie as tie
@@ -20,62 +25,71 @@ not-key-requires c κs = search needs
 returns : tie.Need-returns
 returns c = sym (row-holds 1 _ _ (sym (c .before .not-key .ensures) ∙ c .if1 .taken))
 
+not-sealed-requires : tie.Need-not-sealed-requires
+not-sealed-requires c κs = search needs
+
+-- row 1 is passed
+key-passes : (c : tie.Else1) (rows : List (ℕ × Bool)) → firstRow ((1, notKey (c .before .before .before .before .args .key .now)) ∷ rows) ≡ firstRow rows
+key-passes c rows = row-passes 1 _ _ (sym (c .before .not-key .ensures) ∙ c .if1 .left)
+
 returns-2 : tie.Need-returns-2
-returns-2 c =
-    let a = c .before .before .before .before .before .args in
-    sym (row-passes 1 _ _ (sym (c .before .before .not-key .ensures) ∙ c .before .if1 .left) ∙ row-holds 3 _ _ (sealed-short (a .sealed .now) (c .if2 .taken)))
+returns-2 c = sym (key-passes (c .before .before) _ ∙ row-holds 3 _ _ (sym (c .before .not-sealed .ensures) ∙ c .if2 .taken))
+
+-- and row 3
+sealed-is : (c : tie.Else2) → let a = c .before .before .before .before .before .before .args in notSealed (finishNamed (a .finish)) (a .sealed .now) ≡ false
+sealed-is c = sym (c .before .not-sealed .ensures) ∙ c .if2 .left
+
+least : (c : tie.Else2) → let a = c .before .before .before .before .before .before .args in 16 + overhead (finishNamed (a .finish)) ≤ length (a .sealed .now)
+unfolding Fits
+least c = let a = c .before .before .before .before .before .before .args in (sealed-lengths (finishNamed (a .finish)) (a .sealed .now) (sealed-is c)) .0
+
+-- the IV is the record's first 16 bytes
+iv-long : (c : tie.Else2) → length (take 16 (c .before .before .before .before .before .before .args .sealed .now)) ≡ 16
+iv-long c = length-take-le 16 (c .before .before .before .before .before .before .args .sealed .now) (omega (arith, least c))
+
+slice-aggregate-zero-mask : tie.Need-slice-aggregate-zero-mask
+slice-aggregate-zero-mask c = sym (iv-long (c .before))
+
+zero-mask-requires : tie.Need-zero-mask-requires
+zero-mask-requires c κs =
+    let q = c .before .before .before in
+    (has-key _ (sym (q .before .not-key .ensures) ∙ q .if1 .left), iv-long (c .before))
+
+both-pass : (c : tie.Else2) (rows : List (ℕ × Bool)) → let a = c .before .before .before .before .before .before .args in
+    firstRow ((1, notKey (a .key .now)) ∷ (3, notSealed (finishNamed (a .finish)) (a .sealed .now)) ∷ rows) ≡ firstRow rows
+both-pass c rows = key-passes (c .before .before) _ ∙ row-passes 3 _ _ (sealed-is c)
 
 returns-3 : tie.Need-returns-3
-returns-3 c =
-    let a = c .before .before .before .before .before .before .args in
-    sym (row-passes 1 _ _ (sym (c .before .before .before .not-key .ensures) ∙ c .before .before .if1 .left) ∙ row-holds 3 _ _ (sealed-long (a .sealed .now) (c .before .if2 .left) (c .if3 .taken)))
+unfolding ivPart
+returns-3 c = sym (both-pass (c .before .before .before) _ ∙ row-holds 10 _ _ (sym (c .before .zero-mask .ensures) ∙ c .if3 .taken))
+
+overhead-requires : tie.Need-overhead-requires
+overhead-requires c κs = search needs
+
+sub-if4 : tie.Need-sub-if4
+sub-if4 c = omega (arith, c .overhead .ensures, least (c .before .before .before .before))
+
+-- and row 10
+three-pass : (c : tie.Else3) (rows : List (ℕ × Bool)) → let a = c .before .before .before .before .before .before .before .before .before .args in
+    firstRow ((1, notKey (a .key .now)) ∷ (3, notSealed (finishNamed (a .finish)) (a .sealed .now)) ∷ (10, zeroMask aes (a .key .now) (ivPart (a .sealed .now))) ∷ rows) ≡ firstRow rows
+unfolding ivPart
+three-pass c rows = both-pass (c .before .before .before) _ ∙ row-passes 10 _ _ (sym (c .before .zero-mask .ensures) ∙ c .if3 .left)
 
 returns-4 : tie.Need-returns-4
 returns-4 c =
-    let a = c .before .before .before .before .before .before .before .args in
-    sym (row-passes 1 _ _ (sym (c .before .before .before .before .not-key .ensures) ∙ c .before .before .before .if1 .left) ∙ row-holds 3 _ _ (sealed-misaligned (a .sealed .now) (c .before .before .if2 .left) (c .before .if3 .left) (c .if4 .taken)))
-
--- the IV is the record's first 16 bytes
-iv-long : (c : tie.After-zero-mask-arg) → length (take 16 (c .before .before .before .before .before .before .before .before .args .sealed .now)) ≡ 16
-iv-long c = length-take-le 16 (c .before .before .before .before .before .before .before .before .args .sealed .now) (omega (arith, c .before .before .before .if2 .left))
-
-slice-aggregate-zero-mask : tie.Need-slice-aggregate-zero-mask
-slice-aggregate-zero-mask c = sym (iv-long c)
-
-zero-mask-requires : tie.Need-zero-mask-requires
-zero-mask-requires c κs = (has-key _ (sym (c .before .before .before .before .before .not-key .ensures) ∙ c .before .before .before .before .if1 .left), iv-long c)
+    let q = c .before .before in
+    let a = q .before .before .before .before .before .before .before .before .before .args in
+    let t = finishNamed (a .finish) in
+    let h = least (q .before .before .before) in
+    sym (three-pass q _ ∙ row-holds 5 _ _ (lt-ltb (a .room) (length (cipherPart t (a .sealed .now))) (omega (arith, h, cipher-length t (a .sealed .now) (omega (arith, h)), c .before .overhead .ensures, c .if4 .taken))))
 
 returns-5 : tie.Need-returns-5
-unfolding ivPart
 returns-5 c =
-    let a = c .before .before .before .before .before .before .before .before .before .before .args in
-    sym (row-passes 1 _ _ (sym (c .before .before .before .before .before .before .before .not-key .ensures) ∙ c .before .before .before .before .before .before .if1 .left) ∙ row-passes 3 _ _ (lengths-sealed (a .sealed .now) (c .before .before .before .before .before .if2 .left) (c .before .before .before .before .if3 .left) (c .before .before .before .if4 .left)) ∙ row-holds 10 _ _ (sym (c .before .zero-mask .ensures) ∙ c .if5 .taken))
-
-sub-if6 : tie.Need-sub-if6
-sub-if6 c = omega (arith, c .before .before .before .before .before .if2 .left)
-
-returns-6 : tie.Need-returns-6
-unfolding ivPart
-returns-6 c =
-    let a = c .before .before .before .before .before .before .before .before .before .before .before .args in
-    let l = cipher-length (a .sealed .now) (c .before .before .before .before .before .before .if2 .left) in
-    sym
-    (row-passes 1 _ _ (sym (c .before .before .before .before .before .before .before .before .not-key .ensures) ∙ c .before .before .before .before .before .before .before .if1 .left)
-    ∙ row-passes 3 _ _ (lengths-sealed (a .sealed .now) (c .before .before .before .before .before .before .if2 .left) (c .before .before .before .before .before .if3 .left) (c .before .before .before .before .if4 .left))
-    ∙ row-passes 10 _ _ (sym (c .before .before .zero-mask .ensures) ∙ c .before .if5 .left)
-    ∙ row-holds 5 _ _ (lt-ltb (a .room) (length (cipherPart (a .sealed .now))) (omega (arith, l, c .if6 .taken))))
-
-returns-7 : tie.Need-returns-7
-unfolding ivPart
-returns-7 c =
-    let a = c .before .before .before .before .before .before .before .before .before .before .before .args in
-    let l = cipher-length (a .sealed .now) (c .before .before .before .before .before .before .if2 .left) in
-    sym
-    (row-passes 1 _ _ (sym (c .before .before .before .before .before .before .before .before .not-key .ensures) ∙ c .before .before .before .before .before .before .before .if1 .left)
-    ∙ row-passes 3 _ _ (lengths-sealed (a .sealed .now) (c .before .before .before .before .before .before .if2 .left) (c .before .before .before .before .before .if3 .left) (c .before .before .before .before .if4 .left))
-    ∙ row-passes 10 _ _ (sym (c .before .before .zero-mask .ensures) ∙ c .before .if5 .left)
-    ∙ row-passes 5 _ _ (le-ltb (a .room) (length (cipherPart (a .sealed .now))) (omega (arith, l, c .if6 .left)))
-    ∙ no-row)
+    let q = c .before .before in
+    let a = q .before .before .before .before .before .before .before .before .before .args in
+    let t = finishNamed (a .finish) in
+    let h = least (q .before .before .before) in
+    sym (three-pass q _ ∙ row-passes 5 _ _ (le-ltb (a .room) (length (cipherPart t (a .sealed .now))) (omega (arith, h, cipher-length t (a .sealed .now) (omega (arith, h)), c .before .overhead .ensures, c .if4 .left))) ∙ no-row)
 
 pub open-refusal-spec : {M : Type 1} → statement M
 open-refusal-spec =
@@ -83,12 +97,12 @@ open-refusal-spec =
     (tie.spec
     not-key-requires
     returns
+    not-sealed-requires
     returns-2
-    returns-3
-    returns-4
     slice-aggregate-zero-mask
     zero-mask-requires
-    returns-5
-    sub-if6
-    returns-6
-    returns-7)
+    returns-3
+    overhead-requires
+    sub-if4
+    returns-4
+    returns-5)

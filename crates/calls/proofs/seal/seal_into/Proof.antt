@@ -3,21 +3,24 @@ use borrow.Author.Needs.{needs}
 use mathlib.Core.Path.{_≡_, sym, ap, ap₂, _∙_}
 use mathlib.Core.Bool.{true}
 use mathlib.Core.List.{List, _++_, append-assoc}
-use Prim.Native.Nat.{ℕ, _+_, _-_, _*_, _/_, _%_}
+use Prim.Native.Nat.{ℕ, _+_, _-_, _*_, _/_, _%_, _≤_}
 use native.Mathlib.Omega.{arith}
 use lib.ListN.{length}
 use lib.ListN.{take, drop, length-append}
 use lib.Seq.{take-at, drop-at}
 use Rattle.blocks.specs.Bytes.{zeros}
 use Rattle.blocks.specs.Words.{bytesOf}
-use Rattle.mode.specs.Mode.{Pass, plaintext, zeroBlock, blocksOf, padded, pass, unbroken, tagFrom, unbrokenTag, sealedRecord}
+use Rattle.mode.specs.Mode.{finishNamed, overhead, Pass, plaintext, zeroBlock, blocksOf, padded, pass, unbroken, unbrokenTag, sealedRecord}
 use Rattle.mode.specs.Aes.{aes}
 use Rattle.mode.proofs.Aes.{aes-lawful}
+use Rattle.mode.specs.Calls.{heldTag}
+use Rattle.mode.proofs.Finishes.{both, held-front}
 use Rattle.mode.proofs.Blocks.{long-blocks, length-padded, count-last}
-use Rattle.mode.proofs.SealedLength.{unbroken-output-long}
+use Rattle.mode.proofs.SealedLength.{unbroken-output-long, unbroken-tag-long}
 use Rattle.cipher.specs.Keys.{keyOf}
 use Rattle.blocks.proofs.Parts.{back-is, back-put}
 use Rattle.calls.specs.Layout.{laidOut, laidOutLength}
+use Rattle.calls.specs.Work.{sealedLength}
 use Rattle.blocks.proofs.Zeros.{length-zeros}
 use Rattle.blocks.proofs.Parts.{whole-16}
 use Rattle.blocks.proofs.Zeros.{stored-front, stored-after}
@@ -31,7 +34,7 @@ front c =
     let s = c .before .before .before .before .before .before .before .before .before .before in
     let a = s .args in
     let room = length (a .out .now) in
-    stored-front (a .out .now) (c .store .last .0) (c .before .before .load .result) room (s .pre .1 .1 .0 .zero) (c .store .ensures)
+    stored-front 16 (a .out .now) (c .store .last .0) (c .before .before .load .result) room (s .pre .1 .1 .0 .zero) (c .store .ensures)
     ∙ ap (λ (z : List ℕ). z ++ zeros (room - 16)) (c .before .before .load .ensures ∙ whole-16 (a .iv .now) (s .pre .1 .0))
 
 -- zeros behind it
@@ -113,27 +116,41 @@ seal-text-requires c κs =
     (c .before .before .before .before .before .before .before .before .before .prepare .ensures .expanded .schedule, (fresh (room - 16) _ z, (omega (arith, ap length z ∙ length-zeros (room - 16), s .pre .1 .1 .1), omega arith)))
 
 tag-requires : tie.Need-tag-requires
-tag-requires c κs = c .before .before .before .before .before .before .before .before .before .before .before .before .before .before .before .prepare .ensures .expanded .schedule
+tag-requires c κs = c .before .before .before .before .before .before .before .before .before .before .before .before .before .before .before .prepare .ensures .expanded
 
 laid-out-length-requires : tie.Need-laid-out-length-requires
 laid-out-length-requires c κs = search needs
 
-add-at : tie.Need-add-at
+-- all that is written has room
+room-for : (c : tie.After-laid-out-length) → let s = c .before .before .before .before .before .before .before .before .before .before .before .before .before .before .before .before .before .before .before .before .before .before in
+    c .laid-out-length .result + overhead (finishNamed (s .args .finish)) ≤ length (s .args .out .now)
 unfolding laidOutLength
-add-at c = let s = c .before .before .before .before .before .before .before .before .before .before .before .before .before .before .before .before .before .before .before .before .before .before in omega (arith, c .laid-out-length .ensures, s .pre .1 .1 .1, s .good .1 .1 .1 .0 .0)
+room-for c =
+    let s = c .before .before .before .before .before .before .before .before .before .before .before .before .before .before .before .before .before .before .before .before .before .before in
+    omega (arith, c .laid-out-length .ensures, s .pre .1 .1 .1)
 
-store-requires-2 : tie.Need-store-requires-2
+add-at : tie.Need-add-at
+add-at c = let s = c .before .before .before .before .before .before .before .before .before .before .before .before .before .before .before .before .before .before .before .before .before .before in omega (arith, room-for c, s .good .1 .1 .1 .1 .0 .0)
+
+put-requires : tie.Need-put-requires
 unfolding laidOutLength
-store-requires-2 c κs =
-    let s = c .before .before .before .before .before .before .before .before .before .before .before .before .before .before .before .before .before .before .before .before .before .before .before in
+put-requires c κs =
+    let n = c .before in
+    let d = n .before .before .before .before .before .before .before in
+    let s = n .before .before .before .before .before .before .before .before .before .before .before .before .before .before .before .before .before .before .before .before .before .before in
     let a = s .args in
     let r = length (a .out .now) - 16 - (length (a .message .now) / 16 * 16 + 16) in
-    let l = ap length (text (c .before .before .before .before .before .before .before .before)) ∙ length-append ((a .iv .now) ++ output (c .before .before .before .before .before .before .before .before)) (zeros r) ∙ ap₂ (λ (x y : ℕ). x + y) (front-length (c .before .before .before .before .before .before .before .before)) (length-zeros r) in
-    omega (arith, l, c .before .laid-out-length .ensures, s .pre .1 .1 .1)
+    let l = ap length (text d) ∙ length-append ((a .iv .now) ++ output d) (zeros r) ∙ ap₂ (λ (x y : ℕ). x + y) (front-length d) (length-zeros r) in
+    omega (arith, l, n .laid-out-length .ensures, s .pre .1 .1 .1)
 
-add-t19 : tie.Need-add-t19
-unfolding laidOutLength
-add-t19 c = let s = c .before .before .before .before .before .before .before .before .before .before .before .before .before .before .before .before .before .before .before .before .before .before .before .before .before .before in omega (arith, c .before .before .before .before .laid-out-length .ensures, s .pre .1 .1 .1, s .good .1 .1 .1 .0 .0)
+tag-length-requires : tie.Need-tag-length-requires
+tag-length-requires c κs = search needs
+
+add-t26 : tie.Need-add-t26
+add-t26 c =
+    let n = c .before .before .before .before .before in
+    let s = n .before .before .before .before .before .before .before .before .before .before .before .before .before .before .before .before .before .before .before .before .before .before in
+    omega (arith, room-for n, c .tag-length .ensures, s .good .1 .1 .1 .1 .0 .0)
 
 same-length : tie.Need-same-length
 same-length c = search needs
@@ -141,20 +158,26 @@ same-length c = search needs
 returns : tie.Need-returns
 unfolding laidOutLength sealedRecord unbrokenTag output
 returns c =
-    let s = c .before .before .before .before .before .before .before .before .before .before .before .before .before .before .before .before .before .before .before .before .before .before .before .before .before .before in
+    let y = c .before .before .before .before .before in
+    let u = c .before .before .before in
+    let d = y .before .before .before .before .before .before .before in
+    let s = y .before .before .before .before .before .before .before .before .before .before .before .before .before .before .before .before .before .before .before .before .before .before in
     let a = s .args in
+    let f = finishNamed (a .finish) in
     let room = length (a .out .now) in
     let n = length (a .message .now) in
-    let y = c .before .before .before .before .laid-out-length in
-    let d = c .before .before .before .before .before .before .before .before .before .before .before in
-    let e : y .result + 16 + 16 ≡ n / 16 * 16 + 48 = omega (arith, y .ensures) in
-    let f : length ((a .iv .now) ++ output d) ≡ y .result + 16 = front-length d ∙ omega (arith, y .ensures) in
-    let r : room - 16 - (n / 16 * 16 + 16) - 16 ≡ room - (n / 16 * 16 + 48) = omega arith in
-    let t : c .before .before .before .before .before .tag .result ≡ unbrokenTag aes plaintext (a .key .now) (a .iv .now) (blocksOf (padded (a .message .now))) =
-    c .before .before .before .before .before .tag .ensures ∙ (λ i. tagFrom aes (key-is d i) ((d .seal-text .ensures .authenticated ∙ ap (λ (z : Pass). z .preauthenticator) (whole d)) i) ((d .seal-text .ensures .masked ∙ ap (λ (z : Pass). z .mask) (whole d)) i)) in (
+    let e : y .laid-out-length .result + 16 + c .tag-length .result ≡ sealedLength f n = omega (arith, y .laid-out-length .ensures, c .tag-length .ensures) in
+    let g : length ((a .iv .now) ++ output d) ≡ y .laid-out-length .result + 16 = front-length d ∙ omega (arith, y .laid-out-length .ensures) in
+    let r : room - 16 - (n / 16 * 16 + 16) - f .tagLength ≡ room - sealedLength f n = omega arith in
+    let bs = blocksOf (padded (a .message .now)) in
+    let tag = unbrokenTag f aes plaintext (a .key .now) (a .iv .now) bs in
+    let long : length tag ≡ f .tagLength = unbroken-tag-long aes aes-lawful (a .key .now) (s .pre .0) (a .iv .now) (s .pre .1 .0) f (both aes aes-lawful (a .finish)) plaintext bs (long-blocks (padded (a .message .now)) (ap (λ (k : ℕ). k % 16) (length-padded (a .message .now)) ∙ omega arith)) in
+    let h : y .before .tag .result ≡ heldTag tag =
+    y .before .tag .ensures ∙ ap₂ (λ (p m : List ℕ). heldTag (f .tagFrom aes (a .key .now) p m)) (d .seal-text .ensures .authenticated ∙ ap (λ (z : Pass). z .preauthenticator) (whole d)) (d .seal-text .ensures .masked ∙ ap (λ (z : Pass). z .mask) (whole d)) in
+    let t : take (f .tagLength) (y .before .tag .result) ≡ tag = ap (take (f .tagLength)) h ∙ held-front tag (f .tagLength) long in (
       (λ i. record { refusal = 0; length = e i }),
-      stored-after ((a .iv .now) ++ output d) _ (c .before .before .store2 .last .0) (c .before .before .before .before .before .tag .result) (y .result + 16) (room - 16 - (n / 16 * 16 + 16)) f (text d) (c .before .before .store2 .ensures)
-          ∙ ap₂ (λ (g : List ℕ) (k : ℕ). (a .iv .now) ++ output d ++ g ++ zeros k) t r,
+      stored-after (f .tagLength) ((a .iv .now) ++ output d) _ (u .put .last .1 .1 .0) (take (f .tagLength) (y .before .tag .result)) (y .laid-out-length .result + 16) (room - 16 - (n / 16 * 16 + 16)) g (text d) (u .put .ensures)
+          ∙ ap₂ (λ (x : List ℕ) (k : ℕ). (a .iv .now) ++ output d ++ x ++ zeros k) t r,
     )
 
 pub seal-into-spec : {M : Type 1} → statement M
@@ -171,7 +194,8 @@ seal-into-spec =
     tag-requires
     laid-out-length-requires
     add-at
-    store-requires-2
-    add-t19
+    put-requires
+    tag-length-requires
+    add-t26
     same-length
     returns)

@@ -82,7 +82,7 @@ returns-2 c =
     let j = c .before .before .before .before .jump-by .ensures ∙ ap₂ jumpBy (read s) (c .before .before .before .before .before .load .ensures ∙ whole-16 (a .mask .now) (h .0)) in
     let d = gives (jumpRows (a .mask .now) (a .distance) room) (jumpBy (a .distance) (a .mask .now)) (q .jump-refusal .result) tt (at-room q) (c .before .before .before .before .before .before .if1 .left) in (
       given-written _ _ room _ 16 d l,
-      stored-front (c .before .before .before .before .before .before .before .before .before .before .clear .last .0) (c .before .before .store .last .0) (bytesOf (c .before .before .before .before .jump-by .result)) room (c .before .before .before .before .before .before .before .before .before .before .clear .ensures) (c .before .before .store .ensures)
+      stored-front 16 (c .before .before .before .before .before .before .before .before .before .before .clear .last .0) (c .before .before .store .last .0) (bytesOf (c .before .before .before .before .jump-by .result)) room (c .before .before .before .before .before .before .before .before .before .before .clear .ensures) (c .before .before .store .ensures)
           ∙ ap (λ (z : List ℕ). z ++ zeros (room - 16)) j ∙ given-output _ _ room _ 16 d l,
     )
 

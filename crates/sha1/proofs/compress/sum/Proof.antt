@@ -1,0 +1,35 @@
+-- Five sums.
+use borrow.Author.Needs.{needs}
+use Rattle.sha1.specs.Sha1.{sums}
+use Rattle.sha1.proofs.compress.sum.Statement.{statement}
+use Rattle.sha1.proofs.compress.sum.Tie as tie
+
+add-requires : tie.Need-add-requires
+add-requires c κs = search needs
+
+add-requires-2 : tie.Need-add-requires-2
+add-requires-2 c κs = search needs
+
+add-requires-3 : tie.Need-add-requires-3
+add-requires-3 c κs = search needs
+
+add-requires-4 : tie.Need-add-requires-4
+add-requires-4 c κs = search needs
+
+add-requires-5 : tie.Need-add-requires-5
+add-requires-5 c κs = search needs
+
+returns : tie.Need-returns
+unfolding sums
+returns c = cc
+
+pub sum-spec : {M : Type 1} → statement M
+sum-spec =
+    tie.close
+    (tie.spec
+    add-requires
+    add-requires-2
+    add-requires-3
+    add-requires-4
+    add-requires-5
+    returns)
