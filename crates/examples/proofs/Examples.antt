@@ -11,8 +11,9 @@ use Rattle.blocks.specs.Words.{bytesOf, wordsOf}
 use Rattle.gf128.specs.Gf128.{carry, shiftLeft, reduction, timesX, jump, lowBit, shiftRight, overX, jumpBy}
 use Rattle.fips197.specs.Gf256.{power, inverse}
 use Rattle.fips197.specs.Sbox.{affine, sbox}
+use Rattle.sha1.proofs.Computed as Sha1
 use Rattle.mode.specs.declared.RunRecord.{RunRecord}
-use Rattle.mode.specs.Mode.{zeroBlock, blocksOf, padded, inWords}
+use Rattle.mode.specs.Mode.{zeroBlock, blocksOf, padded, inWords, hashedTag}
 use Rattle.mode.specs.Table.{given, decide, limit, not16, beyond, anyBeyond, tooFar, apart}
 use Rattle.mode.specs.Calls.{blocksOfRun, outcomeBy, joined, joinTwo, jumpMask}
 use Rattle.mode.proofs.Blocks.{count-last}
@@ -21,7 +22,7 @@ use Rattle.mode.proofs.Records.{joined-empty}
 use Rattle.examples.specs.Examples.{result, AllAgree, EmptyNeighbour, PaddedCount}
 
 pub all-agree : AllAgree
-unfolding result jumpMask outcomeBy decide not16 tooFar jumpBy overX shiftRight lowBit jump timesX shiftLeft carry reduction xorBytes sbox affine inverse power mul times step blocksOfRun blocksOf firstBlocks padded joinTwo anyBeyond beyond apart joined num lowBytes bytesOf wordsOf
+unfolding result jumpMask outcomeBy decide not16 tooFar jumpBy overX shiftRight lowBit jump timesX shiftLeft carry reduction xorBytes sbox affine inverse power mul times step blocksOfRun blocksOf firstBlocks padded joinTwo anyBeyond beyond apart joined num lowBytes bytesOf wordsOf hashedTag Sha1.computed
 all-agree = refl
 
 -- neighbours within the limit are joined

@@ -1,14 +1,15 @@
 -- What the demands may not lose: whatever sealing and opening take may be cut, at every block; every call that document 01 allows is allowed, at
 -- every place; no pair is left out but one for each key that lends zeros, every call refuses that one, and its row is all that is new; keys
--- have 16 bytes or 32; jumps go both ways up to the limit; the table's order is document 01's, and no other order passes for it; every record
+-- have 16 bytes or 32; tags 16 or 20, and records the lengths that go with them; jumps go both ways up to the limit; the table's order is document 01's, and no other order passes for it; every record
 -- in words is joined and closed as its bytes are.
 use mathlib.Core.Path.{_≡_, refl, sym, ap, ap₂, subst, _∙_}
 use mathlib.Core.Logic.{_⊎_, inl, inr, _↔_}
-use mathlib.Core.List.{List, [], _∷_, _++_}
-use mathlib.Core.Bool.{Bool, true, false, cond, not}
+use mathlib.Core.List.{List, [], _∷_, _++_, map}
+use mathlib.Core.Bool.{Bool, true, false, cond, not, _||_}
 use Prim.Native.Nat.{ℕ, suc, _+_, _*_, _-_, _%_, _≤_, _<_}
 use lib.IntN.{ℤ, pos, negsuc, negℤ, negℤ-negℤ}
-use lib.ListN.{length, drop, length-append}
+use lib.ListN.{length, drop, replicate, length-append}
+use lib.Dec.{eqb, ltb}
 use native.Mathlib.Omega.{arith}
 use Rattle.blocks.specs.Bytes.{Bytes, Block, zeros, xorBytes, same, firstBlocks, concat}
 use Rattle.blocks.specs.declared.words.Words.{Words}
@@ -18,11 +19,12 @@ use Rattle.blocks.proofs.Sign.{abs-neg}
 use Rattle.fips197.specs.KeyExpansion.{roundKeys}
 use Rattle.fips197.specs.Cipher.{cipher, invCipher, afterRound}
 use Rattle.fips197.specs.Aes.{KeyLength, short, long, Key}
-use Rattle.mode.specs.Mode.{Cipher, Finish, overhead, plaintext, ciphertext, RunRecord, inWords, ByteRecord, inBytes, zeroBlock, keyBlock, encrypt, startMask, blocksOf, ivPart, cipherPart, tagPart, sealedRecord, unbrokenTag, UnbrokenCheck}
-use Rattle.mode.specs.Table.{Answer, refused, given, decide, tableOrder, inOrder, notKey, not16, unaligned, tooLong, notTag, notSealed, beyond, tooFar, apart, notWhole, zeroMask, tooShort, limit, longestMessage}
+use Rattle.sha1.specs.Sha1.{sha1}
+use Rattle.mode.specs.Mode.{Cipher, Finish, overhead, byCipher, bySha1, plaintext, ciphertext, RunRecord, inWords, ByteRecord, inBytes, zeroBlock, keyBlock, encrypt, startMask, blocksOf, ivPart, cipherPart, tagPart, sealedRecord, unbrokenTag, UnbrokenCheck}
+use Rattle.mode.specs.Table.{Answer, refused, given, decide, tableOrder, inOrder, notKey, not16, unaligned, tooLong, notTag, notSealed, beyond, tooFar, apart, notWhole, zeroMask, tooShort, limit, longestMessage, longestSealed}
 use Rattle.mode.specs.Calls.{Outcome, Kind, middle, last, outcomeBy, blocksOfRun, unalignedRun, seal, openSealed, openRows, unpadded, notPadded, orEmpty, plaintextOf, passFrom, runRecord, sealRun, checkRun, joinTwo, closingTag, close, test, Calls, callsOf}
 use Rattle.mode.specs.Parallel.{sealing, checking, ivOf, lastKind, textOf, Fits, Cut, Setting, WellFormed, Segment, isRecorded, segment, Call, runAt, joinPair, joinMany, consecutive, AllRecorded, recordsAt, Allowed, start, roomOf, runOutcome, afterAll, EachCall}
-use Rattle.mode.specs.Demands.{IsAes, Aes128And256, KeyInStepOne, Gives, Refuses, InTable, NonzeroMask, Demand2a, Demand2d, Agrees, Demand3, ZeroMask, zeroMaskIv, without, AsBefore, Formed, inForm, mapAnswer, WordsAsBytes, RunRefused, ZeroMaskRack, JumpsTo, SignedJump}
+use Rattle.mode.specs.Demands.{IsAes, Aes128And256, KeyInStepOne, TwoFinishes, Gives, Refuses, InTable, NonzeroMask, Demand2a, Demand2d, Agrees, Demand3, ZeroMask, zeroMaskIv, without, AsBefore, Formed, inForm, mapAnswer, WordsAsBytes, RunRefused, ZeroMaskRack, JumpsTo, SignedJump}
 use Rattle.fips197.proofs.Keys.{is-key, isnt-key, has-key}
 use Rattle.mode.proofs.Keys.{keyBlock-short, keyBlock-first}
 use Rattle.mode.proofs.Rows.{is-whole}
@@ -292,6 +294,35 @@ pub lends-first : (c : Cipher) → KeyInStepOne c → (a b iv : List ℕ) → le
     → let sum = xorBytes (encrypt c (a ++ b) (xorBytes iv a)) a in
     startMask c (a ++ b) iv ≡ cond (same sum zeroBlock) a sum
 lends-first c k a b iv ha hb = k .of-32 a b iv ha hb
+
+-- ---- the finishes
+
+pub tags-of : (c : Cipher) → TwoFinishes c → (key a mask : List ℕ)
+    → (byCipher .tagFrom c key a mask ≡ xorBytes (encrypt c key (xorBytes a mask)) a) × (bySha1 .tagFrom c key a mask ≡ sha1 (key ++ a ++ mask))
+tags-of c f key a mask = (f .by-cipher key a mask, f .by-sha1 key a mask)
+
+pub tags-long : (c : Cipher) → TwoFinishes c → (key a mask : List ℕ) → KeyLength key → length a ≡ 16 → length mask ≡ 16
+    → (length (byCipher .tagFrom c key a mask) ≡ 16) × (length (bySha1 .tagFrom c key a mask) ≡ 20)
+tags-long c f key a mask hk ha hm = (f .cipher-long .1 .tag-long key a mask hk ha hm ∙ f .cipher-long .0, f .sha1-long .1 .tag-long key a mask hk ha hm ∙ f .sha1-long .0)
+
+-- ---- row 3 of a sealed record and of a tag, by their lengths
+
+unfoldable pub recordRefused : Finish → ℕ → Bool
+recordRefused t n = ltb n (16 + overhead t) || (ltb (longestSealed t) n || not (eqb ((n - overhead t) % 16) 0))
+
+pub by-length : (t : Finish) (sealed tag : List ℕ) → (notSealed t sealed ≡ recordRefused t (length sealed)) × (notTag t tag ≡ not (eqb (length tag) (t .tagLength)))
+unfolding notSealed notTag recordRefused
+by-length t sealed tag = (refl, refl)
+
+-- 48 to 64,032, a multiple of 16; 52 to 64,036, 36 over a multiple of 16
+pub records-taken : (map (recordRefused byCipher) (48 ∷ 64 ∷ 64032 ∷ []) ≡ false ∷ false ∷ false ∷ []) × (map (recordRefused bySha1) (52 ∷ 68 ∷ 64036 ∷ []) ≡ false ∷ false ∷ false ∷ [])
+unfolding recordRefused
+records-taken = (refl, refl)
+
+pub records-refused : (map (recordRefused byCipher) (32 ∷ 47 ∷ 49 ∷ 52 ∷ 64033 ∷ 64048 ∷ []) ≡ replicate 6 true)
+    × (map (recordRefused bySha1) (36 ∷ 48 ∷ 51 ∷ 53 ∷ 64 ∷ 64037 ∷ 64052 ∷ []) ≡ replicate 7 true)
+unfolding recordRefused
+records-refused = (refl, refl)
 
 -- ---- row 1
 

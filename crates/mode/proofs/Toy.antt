@@ -13,12 +13,13 @@ use Rattle.blocks.proofs.Test.{bytes-by}
 use Rattle.blocks.proofs.XorBytes.{xorBytes-cancel, block-xor}
 use Rattle.gf128.specs.Gf128.{timesX, jump, carry, shiftLeft, reduction}
 use Rattle.fips197.specs.Aes.{KeyLength, short, long, Key}
-use Rattle.mode.specs.Mode.{Cipher, Lawful, zeroBlock, keyBlock, blocksOf, padded, encrypt, startMask, middletext, written, pass, unbroken, recordOf, ivPart, cipherPart, tagPart, encryptedTag, byCipher, unbrokenTag, sealedRecord}
+use Rattle.mode.specs.Mode.{Cipher, Lawful, zeroBlock, keyBlock, blocksOf, padded, encrypt, startMask, middletext, written, pass, unbroken, recordOf, ivPart, cipherPart, tagPart, encryptedTag, hashedTag, Finish, byCipher, unbrokenTag, sealedRecord}
 use Rattle.mode.specs.Table.{decide, notKey, not16, unaligned, beyond, anyBeyond, apart, none, notWhole, notTag, notSealed, zeroMask}
 use Rattle.mode.specs.Calls.{unalignedRun, blocksOfRun, outcomeBy, joined, joinedOnto, joinedAll, joinTwo, joinList, passFrom, runRecord, sealRun, checkRun, closingTag, close, test, openSealed, openRows, notPadded, orEmpty, unpadded, unpadFrom, plaintextOf, decrypted}
 use Rattle.mode.specs.Parallel.{sealing, checking, sourceOf, finishOf, ivOf, textOf, lastKind, allBlocks, Fits, Cut, Setting, WellFormed, runsFrom, blocksOfRuns, runsIn, recordIn, bytesIn, isRecorded, runsOf, bytesOfSegments, blocksIn, consecutive, AllRecorded, Allowed, mergeBy, recordBy, headOr, firstRun, empties, start, roomOf, outcomeOfRun, runOutcome, answerOf, after, afterAll, EachCall}
 use Rattle.mode.specs.Demands.{whole, wholeTag, recordOfSegments, ciphertextOfSegment, Expected, TestedAs}
 use Rattle.fips197.proofs.Keys.{at-least-16}
+use Rattle.sha1.proofs.Computed as Sha1
 use Rattle.mode.proofs.Laws.{xor-long}
 
 -- the first half adds the last 16 bytes of the key, and the second changes nothing
@@ -61,7 +62,7 @@ toy-lawful =
 
 -- to unfold this is to unfold all that a small case computes by
 unfoldable pub computed : Unit {0}
-unfolding xorBytes firstBlocks same concat num lowBytes bytesOf wordsOf timesX jump carry shiftLeft reduction blocksOf padded keyBlock encrypt startMask middletext written pass unbroken recordOf ivPart cipherPart tagPart encryptedTag unbrokenTag sealedRecord decide notKey not16 unaligned beyond anyBeyond apart none notWhole notTag notSealed zeroMask unalignedRun blocksOfRun outcomeBy joined joinedOnto joinedAll joinTwo joinList passFrom runRecord sealRun checkRun closingTag close test openSealed openRows notPadded orEmpty unpadded unpadFrom plaintextOf decrypted sourceOf finishOf ivOf textOf lastKind allBlocks Fits Cut runsFrom blocksOfRuns runsIn recordIn bytesIn isRecorded runsOf bytesOfSegments blocksIn consecutive AllRecorded Allowed mergeBy recordBy headOr firstRun empties start roomOf outcomeOfRun runOutcome answerOf after afterAll EachCall whole wholeTag recordOfSegments ciphertextOfSegment Expected TestedAs
+unfolding xorBytes firstBlocks same concat num lowBytes bytesOf wordsOf timesX jump carry shiftLeft reduction blocksOf padded keyBlock encrypt startMask middletext written pass unbroken recordOf ivPart cipherPart tagPart encryptedTag hashedTag unbrokenTag sealedRecord decide notKey not16 unaligned beyond anyBeyond apart none notWhole notTag notSealed zeroMask unalignedRun blocksOfRun outcomeBy joined joinedOnto joinedAll joinTwo joinList passFrom runRecord sealRun checkRun closingTag close test openSealed openRows notPadded orEmpty unpadded unpadFrom plaintextOf decrypted sourceOf finishOf ivOf textOf lastKind allBlocks Fits Cut runsFrom blocksOfRuns runsIn recordIn bytesIn isRecorded runsOf bytesOfSegments blocksIn consecutive AllRecorded Allowed mergeBy recordBy headOr firstRun empties start roomOf outcomeOfRun runOutcome answerOf after afterAll EachCall whole wholeTag recordOfSegments ciphertextOfSegment Expected TestedAs Sha1.computed
 computed = tt
 
 abbrev pub aKey : List ℕ
@@ -80,13 +81,13 @@ aLongKey-is = record { size = long refl; bytes = bytes-by aLongKey tt }
 abbrev pub anIv : List ℕ
 anIv = replicate 16 2
 
--- the empty message in one piece, which gets the padding
-abbrev pub onePiece : Setting
-onePiece = record { key = aKey; work = sealing byCipher anIv []; pieces = [] ∷ [] }
+-- the empty message in one piece, which gets the padding, with any finish
+abbrev pub onePiece : Finish → Setting
+onePiece t = record { key = aKey; work = sealing t anIv []; pieces = [] ∷ [] }
 
-pub onePiece-formed : WellFormed onePiece
+pub onePiece-formed : (t : Finish) → WellFormed (onePiece t)
 unfolding computed
-onePiece-formed = record { key-is = aKey-is; iv-bytes = bytes-by anIv tt; text-bytes = bytes-by [] tt; fits = (refl, lit≤ tt); cut = tt; pieces-are = refl }
+onePiece-formed t = record { key-is = aKey-is; iv-bytes = bytes-by anIv tt; text-bytes = bytes-by [] tt; fits = (refl, lit≤ tt); cut = tt; pieces-are = refl }
 
 -- the same under a key of zeros; and under an IV that is the key, so that step 1 comes to zero and the key is the start mask
 abbrev pub zeroKey : Setting
@@ -110,6 +111,14 @@ longReplaced = record { key = aLongKey; work = sealing byCipher (replicate 16 9)
 pub longReplaced-formed : WellFormed longReplaced
 unfolding computed
 longReplaced-formed = record { key-is = aLongKey-is; iv-bytes = bytes-by (replicate 16 9) tt; text-bytes = bytes-by [] tt; fits = (refl, lit≤ tt); cut = tt; pieces-are = refl }
+
+-- the empty message under the key of 32 bytes, with any finish
+abbrev pub onePieceLong : Finish → Setting
+onePieceLong t = record { key = aLongKey; work = sealing t anIv []; pieces = [] ∷ [] }
+
+pub onePieceLong-formed : (t : Finish) → WellFormed (onePieceLong t)
+unfolding computed
+onePieceLong-formed t = record { key-is = aLongKey-is; iv-bytes = bytes-by anIv tt; text-bytes = bytes-by [] tt; fits = (refl, lit≤ tt); cut = tt; pieces-are = refl }
 
 -- the sealed record of the empty message with some tag, its ciphertext in one piece: the tag is 7 in each byte (proofs/Refuted.antt)
 abbrev pub oneText : List ℕ
