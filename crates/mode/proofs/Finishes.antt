@@ -27,7 +27,7 @@ by-cipher c laws = record { tag-long = long }
         (laws .secondHalf-long key (c .firstHalf key (xorBytes p m)) size (laws .firstHalf-long key (xorBytes p m) size (xor-long p m hp hm))) hp)
 
 pub by-sha1 : (c : Cipher) → LawfulFinish bySha1 c
-by-sha1 c = record { tag-long = λ key p m size hp hm. (unfold hashedTag in length-sha1 (key ++ p ++ m)) }
+by-sha1 c = record { tag-long = λ key p m size hp hm. (unfold hashedTag in length-sha1 _) }
 
 pub both : (c : Cipher) → Lawful c → (n : Named) → LawfulFinish (finishNamed n) c
 both c laws NamedCipher = by-cipher c laws

@@ -12,16 +12,17 @@ use Rattle.tags.proofs.tag.lay_out.Statement.{statement}
 use Rattle.tags.proofs.tag.lay_out.Tie as tie
 
 -- the key and two blocks have room
-room : (c : tie.Start) → length (c .args .key .now) + 32 ≤ length (c .args .text .now)
-room c = omega (arith, at-most-32 (c .args .key .now) (c .pre .0), ap length (c .pre .1))
+room : (c : tie.Start) → (length (c .args .key .now) ≤ 32) × (length (c .args .text .now) ≡ 64)
+room c = (at-most-32 (c .args .key .now) (c .pre .0), ap length (c .pre .1))
 
 put-requires : tie.Need-put-requires
-put-requires c κs = omega (arith, room (c .before .before .before))
+put-requires c κs = let r = room (c .before .before .before) in omega (arith, r .0, r .1)
 
 store-requires : tie.Need-store-requires
 store-requires c κs =
     let p = c .before .before .before in
-    omega (arith, room (p .before .before .before .before), p .put .kept .0)
+    let r = room (p .before .before .before .before) in
+    omega (arith, r .0, r .1, p .put .kept .0)
 
 add-store : tie.Need-add-store
 add-store c = search needs
@@ -30,7 +31,8 @@ store-requires-2 : tie.Need-store-requires-2
 store-requires-2 c κs =
     let q = c .before .before .before in
     let p = q .before .before .before .before in
-    omega (arith, room (p .before .before .before .before), p .put .kept .0, q .store .kept .0)
+    let r = room (p .before .before .before .before) in
+    omega (arith, r .0, r .1, p .put .kept .0, q .store .kept .0)
 
 same-length : tie.Need-same-length
 same-length c = search needs
