@@ -2,16 +2,17 @@
 
 #include "balzenoh.h"
 #include "bytes.h"
-#include "reference.h"
 
 #include <stdio.h>
 #include <stdlib.h>
 #include <string.h>
 
-enum kind { SEAL, OPEN, SEAL_RUN, CHECK_RUN, JOIN, JOIN_LIST, CLOSE, TEST, JUMP, KINDS };
+/* The calls with a finish by the cipher, each with its namesake by the hash beside it, and the others. */
+enum kind { SEAL, SEAL_SHA1, OPEN, OPEN_SHA1, SEAL_RUN, CHECK_RUN, JOIN, JOIN_LIST, CLOSE, CLOSE_SHA1, TEST, TEST_SHA1, JUMP, SHA1, KINDS };
 enum { REFUSALS = 25 };
 
-static const char *const names[KINDS] = {"seal", "open", "seal_run", "check_run", "join", "join_list", "close", "test", "jump"};
+static const char *const names[KINDS] = {"seal", "seal_sha1", "open", "open_sha1", "seal_run", "check_run", "join", "join_list",
+                                         "close", "close_sha1", "test", "test_sha1", "jump", "sha1"};
 static unsigned long counts[KINDS][REFUSALS];
 
 uint8_t answer[LONGEST], answer_run[LONGEST];
@@ -52,7 +53,7 @@ void must_be_same(const char *what, const uint8_t *a, const uint8_t *b, size_t l
     fail(what, where);
 }
 
-static uint8_t compare(enum kind kind, uint8_t got, uint8_t right) {
+static uint8_t compare(int kind, uint8_t got, uint8_t right) {
     const char *fault = guard_fault();
     char what[80];
     if (got != right) {
@@ -71,18 +72,19 @@ static uint8_t compare(enum kind kind, uint8_t got, uint8_t right) {
     return right;
 }
 
-uint8_t both_seal(slice key, slice iv, slice message, size_t room) {
+uint8_t both_seal(enum finish by, slice key, slice iv, slice message, size_t room) {
     lend(room, 0);
-    uint8_t got = balzenoh_seal(guard_input(0, key), key.len, guard_input(1, iv), iv.len, guard_input(2, message), message.len,
-                                out, room, &lent.length);
-    return compare(SEAL, got, reference_seal(key.bytes, key.len, iv.bytes, iv.len, message.bytes, message.len,
-                                             answer, room, &answer_length));
+    uint8_t got = (by == BY_HASH ? balzenoh_seal_sha1 : balzenoh_seal)(guard_input(0, key), key.len, guard_input(1, iv), iv.len,
+                                                                       guard_input(2, message), message.len, out, room, &lent.length);
+    return compare(SEAL + by, got, reference_seal(by, key.bytes, key.len, iv.bytes, iv.len, message.bytes, message.len,
+                                                  answer, room, &answer_length));
 }
 
-uint8_t both_open(slice key, slice sealed, size_t room) {
+uint8_t both_open(enum finish by, slice key, slice sealed, size_t room) {
     lend(room, 0);
-    uint8_t got = balzenoh_open(guard_input(0, key), key.len, guard_input(1, sealed), sealed.len, out, room, &lent.length);
-    return compare(OPEN, got, reference_open(key.bytes, key.len, sealed.bytes, sealed.len, answer, room, &answer_length));
+    uint8_t got = (by == BY_HASH ? balzenoh_open_sha1 : balzenoh_open)(guard_input(0, key), key.len, guard_input(1, sealed), sealed.len,
+                                                                       out, room, &lent.length);
+    return compare(OPEN + by, got, reference_open(by, key.bytes, key.len, sealed.bytes, sealed.len, answer, room, &answer_length));
 }
 
 uint8_t both_seal_run(slice key, slice iv, uint32_t first, uint8_t last, slice bytes, size_t room, size_t record_room) {
@@ -130,17 +132,18 @@ uint8_t both_join_list(slice records, size_t record_room) {
     return compare_bytes_joined(refusal, records, none);
 }
 
-uint8_t both_close(slice key, slice iv, slice record, size_t room) {
+uint8_t both_close(enum finish by, slice key, slice iv, slice record, size_t room) {
     lend(room, 0);
-    uint8_t got = balzenoh_close(guard_input(0, key), key.len, guard_input(1, iv), iv.len, guard_input(2, record), record.len, out, room);
-    return compare(CLOSE, got, reference_close(key.bytes, key.len, iv.bytes, iv.len, record.bytes, record.len, answer, room));
+    uint8_t got = (by == BY_HASH ? balzenoh_close_sha1 : balzenoh_close)(guard_input(0, key), key.len, guard_input(1, iv), iv.len,
+                                                                         guard_input(2, record), record.len, out, room);
+    return compare(CLOSE + by, got, reference_close(by, key.bytes, key.len, iv.bytes, iv.len, record.bytes, record.len, answer, room));
 }
 
-uint8_t both_test(slice key, slice iv, slice record, slice tag) {
+uint8_t both_test(enum finish by, slice key, slice iv, slice record, slice tag) {
     lend(0, 0);
-    uint8_t got = balzenoh_test(guard_input(0, key), key.len, guard_input(1, iv), iv.len, guard_input(2, record), record.len,
-                                guard_input(3, tag), tag.len);
-    return compare(TEST, got, reference_test(key.bytes, key.len, iv.bytes, iv.len, record.bytes, record.len, tag.bytes, tag.len));
+    uint8_t got = (by == BY_HASH ? balzenoh_test_sha1 : balzenoh_test)(guard_input(0, key), key.len, guard_input(1, iv), iv.len,
+                                                                       guard_input(2, record), record.len, guard_input(3, tag), tag.len);
+    return compare(TEST + by, got, reference_test(by, key.bytes, key.len, iv.bytes, iv.len, record.bytes, record.len, tag.bytes, tag.len));
 }
 
 uint8_t both_jump(slice mask, int32_t distance, size_t room) {
@@ -154,6 +157,12 @@ uint8_t both_jump(slice mask, int32_t distance, size_t room) {
         must_be_same("jumping in words", answer, moved, 16);
     }
     return refusal;
+}
+
+uint8_t both_sha1(slice text, size_t room) {
+    lend(room, 0);
+    uint8_t got = balzenoh_sha1(guard_input(0, text), text.len, out, room);
+    return compare(SHA1, got, reference_sha1(text.bytes, text.len, answer, room));
 }
 
 void print_counts(void) {

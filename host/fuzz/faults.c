@@ -1,12 +1,14 @@
 /* A deliberately wrong library, to see that the harness finds what is wrong: the linker's --wrap puts these functions over the right ones.
-   FAULT in the environment names the fault; all else stays right. */
+   FAULT in the environment names the fault; all else stays right. Those of the hash finish are in faults_sha1.c. */
+#include "faults.h"
+
 #include "aes.h"
 #include "reference.h"
 
 #include <stdlib.h>
 #include <string.h>
 
-static int fault_is(const char *name) {
+int fault_is(const char *name) {
     static const char *chosen;
     if (chosen == NULL)
         chosen = getenv("FAULT");
@@ -73,7 +75,7 @@ static void close_with_the_last_bytes_lent(const uint8_t *key, const uint8_t *iv
     uint8_t swapped[32];
     swap_halves(swapped, key);
     wrong = 1;
-    reference_close(swapped, 32, iv, 16, run, 24, tag, tag_len);
+    reference_close(BY_CIPHER, swapped, 32, iv, 16, run, 24, tag, tag_len);
     wrong = 0;
 }
 
@@ -96,7 +98,7 @@ uint8_t __wrap_balzenoh_seal(const uint8_t *key, size_t key_len, const uint8_t *
         return __real_balzenoh_seal(key, 16, iv, iv_len, message, message_len, out, out_len, length);
     if (is_wrong_under(key_len, "extra-subword-left-out") && refusal == 0) {
         wrong = 1;
-        reference_seal(key, key_len, iv, iv_len, message, message_len, out, out_len, length);
+        reference_seal(BY_CIPHER, key, key_len, iv, iv_len, message, message_len, out, out_len, length);
         wrong = 0;
     }
     return refusal;

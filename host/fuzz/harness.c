@@ -1,10 +1,9 @@
 /* The fuzzer's harness. It reads the fuzzer's bytes as a list of calls on one key, IV and message, and makes each of the library and of the
    reference. Many inputs are derived: genuine sealed records, some damaged; tags that are right over a text with no padding; records that
    are neighbours, often of equal or alternating counts; lists cut into runs; pairs of key and IV for which step 1 comes to zero, or nearly. So
-   calls get past the refusals that random bytes would end in. The key has 16 bytes or 32. */
+   calls get past the refusals that random bytes would end in. The key has 16 bytes or 32, and a tag is by the cipher or by the hash. */
 #include "both.h"
 #include "draw.h"
-#include "reference.h"
 
 #include <stdlib.h>
 #include <string.h>
@@ -27,6 +26,14 @@ static slice draw_iv(draw *d) {
     return bytes_of(iv, draw_about(d, 16));
 }
 
+static enum finish draw_finish(draw *d) {
+    return draw_rarely(d, 2) ? BY_HASH : BY_CIPHER;
+}
+
+static enum finish other_finish(enum finish by) {
+    return by == BY_HASH ? BY_CIPHER : BY_HASH;
+}
+
 /* Flips one bit, or leaves the bytes as they are: as likely the one as the other. */
 static void maybe_damage(draw *d, uint8_t *bytes, size_t len) {
     uint32_t way = draw_below(d, 6);
@@ -39,44 +46,54 @@ static void maybe_damage(draw *d, uint8_t *bytes, size_t len) {
 /* ---- whole lists */
 
 static void call_seal(draw *d) {
+    enum finish by = draw_finish(d);
     size_t len = draw_length(d);
     slice k = draw_key(d), v = draw_iv(d);
-    both_seal(k, v, bytes_of(message, len), draw_room(d, len / 16 * 16 + 48));
+    both_seal(by, k, v, bytes_of(message, len), draw_room(d, len / 16 * 16 + 16 + reference_around(by)));
+}
+
+/* Opens what is in the buffer. What was sealed by one finish is rarely opened by the other. */
+static void open_buffer(draw *d, enum finish by, size_t len) {
+    slice k = draw_key(d);
+    if (draw_rarely(d, 16))
+        by = other_finish(by);
+    size_t around = reference_around(by);
+    both_open(by, k, bytes_of(buffer, len), draw_room(d, len < around ? 0 : len - around));
 }
 
 /* A record as the mode gives it, perhaps damaged, perhaps of a wrong length. */
 static void call_open(draw *d) {
     static uint8_t text[16 * LIMIT];
-    size_t len = draw_length(d) % sizeof text, blocks = len / 16 + 1;
+    enum finish by = draw_finish(d);
+    size_t len = draw_length(d) % sizeof text, blocks = len / 16 + 1, sealed = 16 * blocks + reference_around(by);
     memset(text, 0, 16 * blocks);
     memcpy(text, message, len);
     text[len] = 0x80;
-    reference_seal_text(key, key_len, iv, text, blocks, buffer);
-    maybe_damage(d, buffer, 16 * blocks + 32);
-    slice k = draw_key(d);
-    slice sealed = bytes_of(buffer, draw_about(d, 16 * blocks + 32));
-    both_open(k, sealed, draw_room(d, sealed.len < 32 ? 0 : sealed.len - 32));
+    reference_seal_text(by, key, key_len, iv, text, blocks, buffer);
+    maybe_damage(d, buffer, sealed);
+    open_buffer(d, by, draw_about(d, sealed));
 }
 
 /* A text that ends as drawn, with no padding added: the tag is right, the padding mostly wrong. */
 static void call_open_unpadded(draw *d) {
     static uint8_t text[16 * 32];
+    enum finish by = draw_finish(d);
     size_t len = 16 * (1 + draw_below(d, 31));
     memcpy(text, message, len);
     memset(text + len - 16, 0, 16);
     size_t place = len - 1 - draw_below(d, 16), other = len - 1 - draw_below(d, 16);
     text[place] ^= draw_rarely(d, 2) ? draw_byte(d) : 0x80;
     text[other] ^= draw_rarely(d, 4) ? draw_byte(d) : 0;
-    reference_seal_text(key, key_len, iv, text, len / 16, buffer);
-    slice k = draw_key(d);
-    both_open(k, bytes_of(buffer, len + 32), draw_room(d, len));
+    reference_seal_text(by, key, key_len, iv, text, len / 16, buffer);
+    open_buffer(d, by, len + reference_around(by));
 }
 
-/* Any bytes, of any length near those that opening takes. */
+/* Any bytes, of any length near those that opening takes. By the hash they are four bytes longer. */
 static void call_open_noise(draw *d) {
-    slice k = draw_key(d);
-    size_t len = draw_length(d);
-    both_open(k, bytes_of(message, len), draw_room(d, len < 32 ? 0 : len - 32));
+    enum finish by = draw_finish(d);
+    size_t len = draw_length(d) + (by == BY_HASH ? 4 : 0);
+    memcpy(buffer, message, len);
+    open_buffer(d, by, len);
 }
 
 /* ---- runs */
@@ -202,16 +219,20 @@ static slice draw_whole_record(draw *d) {
 }
 
 static void call_close(draw *d) {
+    enum finish by = draw_finish(d);
     slice k = draw_key(d), v = draw_iv(d), run = draw_whole_record(d);
-    both_close(k, v, run, draw_room(d, 16));
+    both_close(by, k, v, run, draw_room(d, reference_tag_length(by)));
 }
 
+/* The right tag, perhaps damaged, perhaps cut: a tag by the hash, cut to 16 bytes, is as long as one by the cipher. */
 static void call_test(draw *d) {
     static uint8_t tag[128];
+    enum finish by = draw_finish(d);
     slice k = draw_key(d), v = draw_iv(d), run = draw_whole_record(d);
-    reference_close(key, key_len, iv, 16, records, RECORD, tag, 16);
-    maybe_damage(d, tag, 16);
-    both_test(k, v, run, bytes_of(tag, draw_about(d, 16)));
+    size_t len = reference_tag_length(by);
+    reference_close(by, key, key_len, iv, 16, records, RECORD, tag, sizeof tag);
+    maybe_damage(d, tag, len);
+    both_test(by, k, v, run, bytes_of(tag, draw_rarely(d, 16) ? reference_tag_length(other_finish(by)) : draw_about(d, len)));
 }
 
 /* Where the mask has jumped, the way back gives it again. */
@@ -225,6 +246,27 @@ static void call_jump(draw *d) {
     memcpy(there, answer, 16);
     both_jump(bytes_of(there, 16), -distance, 16);
     must_be_same("a mask jumped there and back", answer, mask, 16);
+}
+
+/* ---- SHA-1 */
+
+/* The length of a text: at the end of a block of 64 bytes or of a text that has room for its length there, at the limit, or as lists have it. */
+static size_t draw_text_length(draw *d) {
+    static const uint16_t limits[] = {64000, 64031, 64032, 64033, 64034, 65535};
+    switch (draw_below(d, 16)) {
+    case 5:
+        return limits[draw_below(d, sizeof limits / sizeof limits[0])];
+    case 6:
+    case 7:
+        return draw_length(d);
+    default:
+        return 64 * draw_below(d, 6) + 48 + draw_below(d, 24);
+    }
+}
+
+static void call_sha1(draw *d) {
+    size_t len = draw_text_length(d);
+    both_sha1(bytes_of(message, len), draw_room(d, 20));
 }
 
 /* ---- a list in runs */
@@ -252,11 +294,23 @@ static void draw_cuts(draw *d, size_t *cuts, size_t runs, size_t blocks) {
         cuts[i] = cuts[i - 1] + (equal ? blocks / runs : draw_below(d, 256) % (blocks - cuts[i - 1] + 1));
 }
 
-/* The runs from last to first, joined as a list and closed, are the record that sealing in one piece gives; and it opens. Where the pair masks
-   nothing no run is sealed, and there is nothing to join. */
+/* The single record, closed by this finish, and the ciphertext in the buffer are the record that sealing in one piece gives; and it opens. */
+static void finish_cut(enum finish by, size_t len, size_t text) {
+    slice k = bytes_of(key, key_len), v = bytes_of(iv, 16);
+    size_t tag = reference_tag_length(by), sealed = text + reference_around(by);
+    both_close(by, k, v, bytes_of(records, RECORD), tag);
+    memcpy(buffer + 16 + text, answer, tag);
+    both_test(by, k, v, bytes_of(records, RECORD), bytes_of(buffer + 16 + text, tag));
+    both_seal(by, k, v, bytes_of(message, len), sealed);
+    must_be_same("a list sealed in runs", buffer, answer, sealed);
+    both_open(by, k, bytes_of(buffer, sealed), text);
+    must_be_same("a list sealed in runs and opened", answer, message, len);
+}
+
+/* The runs from last to first, joined as a list, and finished both ways. Where the pair masks nothing no run is sealed, and there is nothing to
+   join. */
 static void call_cut(draw *d) {
     size_t len = draw_below(d, 1600), cuts[RUNS], runs = 1 + draw_below(d, RUNS), text = len / 16 * 16 + 16;
-    slice k = bytes_of(key, key_len), v = bytes_of(iv, 16);
     draw_cuts(d, cuts, runs, len / 16);
     for (size_t i = runs; i > 0; i--)
         if (seal_cut(cuts, runs, i - 1, len) != 0)
@@ -264,12 +318,8 @@ static void call_cut(draw *d) {
     memcpy(buffer, iv, 16);
     both_join_list(bytes_of(records, RECORD * runs), RECORD);
     memcpy(records, answer_run, RECORD);
-    both_close(k, v, bytes_of(records, RECORD), 16);
-    memcpy(buffer + 16 + text, answer, 16);
-    both_seal(k, v, bytes_of(message, len), text + 32);
-    must_be_same("a list sealed in runs", buffer, answer, text + 32);
-    both_open(k, bytes_of(buffer, text + 32), text);
-    must_be_same("a list sealed in runs and opened", answer, message, len);
+    finish_cut(BY_CIPHER, len, text);
+    finish_cut(BY_HASH, len, text);
 }
 
 /* ---- the fuzzer's entry points */
@@ -324,7 +374,7 @@ static void draw_list(draw *d) {
 
 int LLVMFuzzerTestOneInput(const uint8_t *bytes, size_t len) {
     static void (*const calls[])(draw *) = {call_seal, call_open, call_open_unpadded, call_open_noise, call_seal_run, call_check_run,
-                                            call_join, call_join_list, call_close, call_test, call_jump, call_cut};
+                                            call_join, call_join_list, call_close, call_test, call_jump, call_cut, call_sha1};
     draw d = {bytes, len};
     draw_list(&d);
     for (int i = 0; i < CALLS && d.left > 0; i++)

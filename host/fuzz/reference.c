@@ -1,10 +1,11 @@
 #include "reference.h"
 
 #include "aes.h"
+#include "sha1.h"
 
 #include <string.h>
 
-enum { LIMIT = 4000, RECORD = 24 };
+enum { LIMIT = 4000, RECORD = 24, TAG = 16, LONGEST_TEXT = 64032 };
 
 /* ---- blocks as polynomials: bit 63 of `upper` is the coefficient of the 127th power */
 
@@ -87,12 +88,21 @@ static int is_key_length(size_t len) {
     return len == 16 || len == 32;
 }
 
+/* A key as the mode has it: its bytes, which the hash finish takes whole, and its round keys. */
+typedef struct {
+    const uint8_t *bytes;
+    size_t len;
+    aes_keys rounds;
+} whole_key;
+
 /* Step 1: makes the round keys, and gives the start mask, which what the key lends replaces where it is zero: the key's first 16 bytes. A
    call refuses, with 10, where it is still zero after that. */
-static poly step_1(aes_keys *keys, const uint8_t *key, size_t key_len, const uint8_t *iv) {
-    aes_expand(keys, key, key_len);
+static poly step_1(whole_key *k, const uint8_t *key, size_t key_len, const uint8_t *iv) {
+    k->bytes = key;
+    k->len = key_len;
+    aes_expand(&k->rounds, key, key_len);
     poly lent = to_poly(key);
-    poly mask = sum(encrypt(keys, sum(to_poly(iv), lent)), lent);
+    poly mask = sum(encrypt(&k->rounds, sum(to_poly(iv), lent)), lent);
     return is_zero(mask) ? lent : mask;
 }
 
@@ -128,16 +138,40 @@ static poly open_blocks(const aes_keys *keys, poly *mask, const uint8_t *ciphert
     return pre;
 }
 
-/* Step 3; `mask` is the one after the last block. */
-static poly tag_of(const aes_keys *keys, poly pre, poly mask) {
-    return sum(encrypt(keys, sum(pre, mask)), pre);
+size_t reference_tag_length(enum finish by) {
+    return by == BY_HASH ? SHA1_DIGEST : TAG;
+}
+
+size_t reference_around(enum finish by) {
+    return 16 + reference_tag_length(by);
+}
+
+/* Step 3 by the cipher; `mask` is the one after the last block. */
+static void cipher_tag(const whole_key *k, poly pre, poly mask, uint8_t *tag) {
+    from_poly(tag, sum(encrypt(&k->rounds, sum(pre, mask)), pre));
+}
+
+/* Step 3 by the hash: SHA-1 of the key, the pre-authenticator and the mask after the last block, one after the other. */
+static void hash_tag(const whole_key *k, poly pre, poly mask, uint8_t *tag) {
+    uint8_t text[32 + 16 + 16];
+    memcpy(text, k->bytes, k->len);
+    from_poly(text + k->len, pre);
+    from_poly(text + k->len + 16, mask);
+    sha1(text, k->len + 32, tag);
+}
+
+static void write_tag(enum finish by, const whole_key *k, poly pre, poly mask, uint8_t *tag) {
+    if (by == BY_HASH)
+        hash_tag(k, pre, mask, tag);
+    else
+        cipher_tag(k, pre, mask, tag);
 }
 
 /* Steps 2 and 3 over a whole text: IV, ciphertext and tag. */
-static void seal_text(const aes_keys *keys, poly mask, const uint8_t *iv, const uint8_t *text, size_t blocks, uint8_t *sealed) {
-    poly pre = seal_blocks(keys, &mask, text, blocks, sealed + 16);
+static void seal_text(enum finish by, const whole_key *k, poly mask, const uint8_t *iv, const uint8_t *text, size_t blocks, uint8_t *sealed) {
+    poly pre = seal_blocks(&k->rounds, &mask, text, blocks, sealed + 16);
     memcpy(sealed, iv, 16);
-    from_poly(sealed + 16 + 16 * blocks, tag_of(keys, pre, mask));
+    write_tag(by, k, pre, mask, sealed + 16 + 16 * blocks);
 }
 
 /* The message with its padding, in memory that the next call uses again. */
@@ -197,10 +231,10 @@ static void zero(uint8_t *out, size_t len) {
 
 /* ---- the calls: zero every output, go down the table, and only then write the answer */
 
-uint8_t reference_seal(const uint8_t *key, size_t key_len, const uint8_t *iv, size_t iv_len, const uint8_t *message, size_t message_len,
-                       uint8_t *out, size_t out_len, size_t *length) {
-    aes_keys keys;
-    size_t blocks = message_len / 16 + 1;
+uint8_t reference_seal(enum finish by, const uint8_t *key, size_t key_len, const uint8_t *iv, size_t iv_len,
+                       const uint8_t *message, size_t message_len, uint8_t *out, size_t out_len, size_t *length) {
+    whole_key k;
+    size_t blocks = message_len / 16 + 1, sealed_len = 16 * blocks + reference_around(by);
     zero(out, out_len);
     *length = 0;
     if (!is_key_length(key_len))
@@ -209,36 +243,44 @@ uint8_t reference_seal(const uint8_t *key, size_t key_len, const uint8_t *iv, si
         return 2;
     if (message_len > 63999)
         return 3;
-    poly mask = step_1(&keys, key, key_len, iv);
+    poly mask = step_1(&k, key, key_len, iv);
     if (is_zero(mask))
         return 10;
-    if (out_len < 16 * blocks + 32)
+    if (out_len < sealed_len)
         return 5;
-    seal_text(&keys, mask, iv, padded(message, message_len), blocks, out);
-    *length = 16 * blocks + 32;
+    seal_text(by, &k, mask, iv, padded(message, message_len), blocks, out);
+    *length = sealed_len;
     return 0;
 }
 
-uint8_t reference_open(const uint8_t *key, size_t key_len, const uint8_t *sealed, size_t sealed_len,
+/* The length of the ciphertext in a sealed record of this length: 1 to 4,000 blocks, or 0 where no record is so long. */
+static size_t ciphertext_length(enum finish by, size_t sealed_len) {
+    size_t around = reference_around(by);
+    if (sealed_len < around + 16 || sealed_len > around + 16 * LIMIT || (sealed_len - around) % 16 != 0)
+        return 0;
+    return sealed_len - around;
+}
+
+uint8_t reference_open(enum finish by, const uint8_t *key, size_t key_len, const uint8_t *sealed, size_t sealed_len,
                        uint8_t *out, size_t out_len, size_t *length) {
     static uint8_t text[16 * LIMIT];
-    uint8_t tag[16];
-    aes_keys keys;
+    uint8_t tag[SHA1_DIGEST];
+    whole_key k;
+    size_t text_len = ciphertext_length(by, sealed_len);
     zero(out, out_len);
     *length = 0;
     if (!is_key_length(key_len))
         return 1;
-    if (sealed_len < 48 || sealed_len > 64032 || sealed_len % 16 != 0)
+    if (text_len == 0)
         return 3;
-    size_t text_len = sealed_len - 32;
-    poly mask = step_1(&keys, key, key_len, sealed);
+    poly mask = step_1(&k, key, key_len, sealed);
     if (is_zero(mask))
         return 10;
     if (out_len < text_len)
         return 5;
-    poly pre = open_blocks(&keys, &mask, sealed + 16, text_len / 16, text);
-    from_poly(tag, tag_of(&keys, pre, mask));
-    if (memcmp(tag, sealed + 16 + text_len, 16) != 0)
+    poly pre = open_blocks(&k.rounds, &mask, sealed + 16, text_len / 16, text);
+    write_tag(by, &k, pre, mask, tag);
+    if (memcmp(tag, sealed + 16 + text_len, reference_tag_length(by)) != 0)
         return 6;
     size_t end = message_length(text, text_len);
     if (end == text_len)
@@ -251,7 +293,7 @@ uint8_t reference_open(const uint8_t *key, size_t key_len, const uint8_t *sealed
 uint8_t reference_seal_run(const uint8_t *key, size_t key_len, const uint8_t *iv, size_t iv_len, uint32_t first, uint8_t last,
                            const uint8_t *bytes, size_t bytes_len, uint8_t *out, size_t out_len, size_t *length,
                            uint8_t *run, size_t run_len) {
-    aes_keys keys;
+    whole_key k;
     size_t blocks = last ? bytes_len / 16 + 1 : bytes_len / 16;
     zero(out, out_len);
     zero(run, run_len);
@@ -264,13 +306,13 @@ uint8_t reference_seal_run(const uint8_t *key, size_t key_len, const uint8_t *iv
         return 3;
     if (first + (uint64_t)blocks > LIMIT)
         return 4;
-    poly mask = step_1(&keys, key, key_len, iv);
+    poly mask = step_1(&k, key, key_len, iv);
     if (is_zero(mask))
         return 10;
     if (out_len < 16 * blocks || run_len < RECORD)
         return 5;
     mask = times_x_to_the(mask, first);
-    poly pre = seal_blocks(&keys, &mask, last ? padded(bytes, bytes_len) : bytes, blocks, out);
+    poly pre = seal_blocks(&k.rounds, &mask, last ? padded(bytes, bytes_len) : bytes, blocks, out);
     write_record(run, first, (uint32_t)blocks, pre);
     *length = 16 * blocks;
     return 0;
@@ -278,7 +320,7 @@ uint8_t reference_seal_run(const uint8_t *key, size_t key_len, const uint8_t *iv
 
 uint8_t reference_check_run(const uint8_t *key, size_t key_len, const uint8_t *iv, size_t iv_len, uint32_t first,
                             const uint8_t *bytes, size_t bytes_len, uint8_t *run, size_t run_len) {
-    aes_keys keys;
+    whole_key k;
     zero(run, run_len);
     if (!is_key_length(key_len))
         return 1;
@@ -288,13 +330,13 @@ uint8_t reference_check_run(const uint8_t *key, size_t key_len, const uint8_t *i
         return 3;
     if (first + (uint64_t)(bytes_len / 16) > LIMIT)
         return 4;
-    poly mask = step_1(&keys, key, key_len, iv);
+    poly mask = step_1(&k, key, key_len, iv);
     if (is_zero(mask))
         return 10;
     if (run_len < RECORD)
         return 5;
     mask = times_x_to_the(mask, first);
-    write_record(run, first, (uint32_t)(bytes_len / 16), open_blocks(&keys, &mask, bytes, bytes_len / 16, NULL));
+    write_record(run, first, (uint32_t)(bytes_len / 16), open_blocks(&k.rounds, &mask, bytes, bytes_len / 16, NULL));
     return 0;
 }
 
@@ -333,17 +375,17 @@ uint8_t reference_join_list(const uint8_t *records, size_t records_len, uint8_t 
 }
 
 /* Step 3 from a record; `start` is the start mask. */
-static poly closing_tag(const aes_keys *keys, poly start, const uint8_t *run) {
-    return tag_of(keys, to_poly(run + 8), times_x_to_the(start, number(run + 4)));
+static void closing_tag(enum finish by, const whole_key *k, poly start, const uint8_t *run, uint8_t *tag) {
+    write_tag(by, k, to_poly(run + 8), times_x_to_the(start, number(run + 4)), tag);
 }
 
 static int is_whole(const uint8_t *run) {
     return number(run) == 0 && number(run + 4) > 0;
 }
 
-uint8_t reference_close(const uint8_t *key, size_t key_len, const uint8_t *iv, size_t iv_len, const uint8_t *run, size_t run_len,
-                        uint8_t *tag, size_t tag_len) {
-    aes_keys keys;
+uint8_t reference_close(enum finish by, const uint8_t *key, size_t key_len, const uint8_t *iv, size_t iv_len,
+                        const uint8_t *run, size_t run_len, uint8_t *tag, size_t tag_len) {
+    whole_key k;
     zero(tag, tag_len);
     if (run_len != RECORD)
         return 24;
@@ -355,34 +397,36 @@ uint8_t reference_close(const uint8_t *key, size_t key_len, const uint8_t *iv, s
         return 4;
     if (!is_whole(run))
         return 9;
-    poly mask = step_1(&keys, key, key_len, iv);
+    poly mask = step_1(&k, key, key_len, iv);
     if (is_zero(mask))
         return 10;
-    if (tag_len < 16)
+    if (tag_len < reference_tag_length(by))
         return 5;
-    from_poly(tag, closing_tag(&keys, mask, run));
+    closing_tag(by, &k, mask, run, tag);
     return 0;
 }
 
-uint8_t reference_test(const uint8_t *key, size_t key_len, const uint8_t *iv, size_t iv_len, const uint8_t *run, size_t run_len,
-                       const uint8_t *tag, size_t tag_len) {
-    aes_keys keys;
+uint8_t reference_test(enum finish by, const uint8_t *key, size_t key_len, const uint8_t *iv, size_t iv_len,
+                       const uint8_t *run, size_t run_len, const uint8_t *tag, size_t tag_len) {
+    uint8_t right[SHA1_DIGEST];
+    whole_key k;
     if (run_len != RECORD)
         return 24;
     if (!is_key_length(key_len))
         return 1;
     if (iv_len != 16)
         return 2;
-    if (tag_len != 16)
+    if (tag_len != reference_tag_length(by))
         return 3;
     if (end_of(run) > LIMIT)
         return 4;
     if (!is_whole(run))
         return 9;
-    poly mask = step_1(&keys, key, key_len, iv);
+    poly mask = step_1(&k, key, key_len, iv);
     if (is_zero(mask))
         return 10;
-    return is_zero(sum(closing_tag(&keys, mask, run), to_poly(tag))) ? 0 : 6;
+    closing_tag(by, &k, mask, run, right);
+    return memcmp(right, tag, tag_len) == 0 ? 0 : 6;
 }
 
 uint8_t reference_jump(const uint8_t *mask, size_t mask_len, int32_t distance, uint8_t *out, size_t out_len) {
@@ -398,10 +442,35 @@ uint8_t reference_jump(const uint8_t *mask, size_t mask_len, int32_t distance, u
     return 0;
 }
 
-void reference_seal_text(const uint8_t *key, size_t key_len, const uint8_t iv[16], const uint8_t *text, size_t blocks, uint8_t *sealed) {
-    aes_keys keys;
-    poly mask = step_1(&keys, key, key_len, iv);
-    seal_text(&keys, mask, iv, text, blocks, sealed);
+uint8_t reference_sha1(const uint8_t *text, size_t text_len, uint8_t *out, size_t out_len) {
+    zero(out, out_len);
+    if (text_len > LONGEST_TEXT)
+        return 3;
+    if (out_len < SHA1_DIGEST)
+        return 5;
+    sha1(text, text_len, out);
+    return 0;
+}
+
+void reference_seal_text(enum finish by, const uint8_t *key, size_t key_len, const uint8_t iv[16], const uint8_t *text, size_t blocks,
+                         uint8_t *sealed) {
+    whole_key k;
+    poly mask = step_1(&k, key, key_len, iv);
+    seal_text(by, &k, mask, iv, text, blocks, sealed);
+}
+
+void reference_seal_chain(enum finish by, const uint8_t *key, size_t key_len, const uint8_t iv[16], uint8_t block[16], uint32_t blocks,
+                          uint8_t *tag) {
+    whole_key k;
+    poly mask = step_1(&k, key, key_len, iv), pre = {0, 0};
+    for (uint32_t i = 0; i < blocks; i++)
+        pre = sum(times_x(pre), seal_blocks(&k.rounds, &mask, block, 1, block));
+    write_tag(by, &k, pre, mask, tag);
+}
+
+void reference_final_mask(const uint8_t *key, size_t key_len, const uint8_t iv[16], const uint8_t run[24], uint8_t mask[16]) {
+    whole_key k;
+    from_poly(mask, times_x_to_the(step_1(&k, key, key_len, iv), number(run + 4)));
 }
 
 /* The start mask comes out as zero where the cipher takes the IV plus what the key lends to what the key lends. */

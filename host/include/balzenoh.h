@@ -18,15 +18,22 @@
  *    takes all 32. The paper does not cover this: the rule is ours.
  *  - The padding is one byte 80 (hexadecimal) and then zero bytes, 1 to 16 bytes together, up to the
  *    next multiple of 16. So a list of n bytes has n / 16 + 1 blocks: 1 to 4,000 of them.
- *  - A sealed record is the IV, the ciphertext and the tag: 16 + 16 j + 16 bytes for j blocks.
+ *  - The tag is made in one of two ways, the finishes of the paper. The cipher finish gives 16 bytes, by
+ *    AES. The hash finish gives 20: SHA-1 of the key, the pre-authenticator and the mask after the last
+ *    block, in that order. A key of 32 bytes goes in whole.
+ *  - A sealed record is the IV, the ciphertext and the tag: 16 + 16 j + 16 bytes for j blocks, or 4 bytes
+ *    more with the hash finish. The ciphertext is the same with either.
+ *  - Nothing in a record says which finish made it: those who seal and those who open must agree on it.
+ *    A record of one finish has a length that the other refuses with 3, and so has a tag.
  *  - A run is any stretch of consecutive blocks of one list, blocks being numbered from 0. The runs
  *    of a list can be sealed or checked in any order, at the same time, on different machines. A
  *    middle run is a multiple of 16 bytes; the last run has any length and gets the padding.
  *  - A run record is what is kept of a run: 24 bytes, namely its first block and its count of blocks
  *    (each a 32-bit number, most significant byte first) and its pre-authenticator (16 bytes), begun
  *    from zero at the run's start. The records of neighbouring runs are joined into one. The record
- *    of all blocks is closed into the tag, which is the tag of the list sealed in one piece. The
- *    paper counts on pre-authenticators never being seen: keep run records where the key is kept.
+ *    of all blocks is closed into the tag, which is the tag of the list sealed in one piece. Runs and
+ *    their records do not know the finish: one record can be closed with either. The paper counts on
+ *    pre-authenticators never being seen: keep run records where the key is kept.
  *
  * The library is proved: for every input, the whole answer of each function below, refusals and the
  * unused end of the output included, is equated with a definition written after the papers. What is
@@ -37,6 +44,8 @@
  *  - Secrecy. No claim is made of what an adversary can find out or forge. Document 002 (Sui, Wu,
  *    Zhang, Wang, "Attacking and Fixing the CS Mode") shows that the mode fails over a specially
  *    built cipher; no such attack over AES is given there.
+ *  - SHA-1. It is that of FIPS 180-4, and no claim is made for its strength, or for that of the hash
+ *    finish. Collisions of SHA-1 have been published.
  *  - A repeated IV. Under one key and IV, equal blocks at the same place of two lists give equal
  *    ciphertext blocks (document 000). Never use an IV twice under one key. The library does not
  *    choose IVs and cannot see that one is used again.
@@ -47,7 +56,7 @@
  *    longer. Nothing is promised of time or caches. An archive on the other engine, which has no table
  *    indexed by data, is what host/engine builds; its answers are the same.
  *  - The stack. Keys, masks and plaintext that were on it are not wiped.
- *  - Left out: the paper's hash finish, headers, and keys of 192 bits.
+ *  - Left out: headers, and keys of 192 bits.
  *
  * CONVENTIONS
  *
@@ -104,14 +113,17 @@
  *   1  the key is neither 16 nor 32 bytes
  *   2  the IV is not 16 bytes
  *   3  the message is above 63,999 bytes; the sealed record below 48, above 64,032 or no multiple of
- *      16; a middle run or a checked run is no multiple of 16; the tag or the mask is not 16 bytes
+ *      16; with the hash finish below 52, above 64,036 or not 36 over a multiple of 16; a middle run or
+ *      a checked run is no multiple of 16; the tag is not 16 bytes, with the hash finish not 20; the mask
+ *      is not 16; the text for SHA-1 is above 64,032
  *   4  first block plus count is above 4,000, for a run or a run record; a jump is longer than 4,000
  *      blocks, either way
  *   8  two records in turn of which the left one does not end where the right one starts
  *   9  the record to be closed or tested does not start at block 0 or has no block; an empty list
  *  10  the start mask is still zero after its replacement. So the first 16 bytes of the key are zeros,
  *      and the IV is the one, under this key, with which each block would go out unmasked
- *   5  an output is shorter than its answer; in balzenoh_open, shorter than the ciphertext
+ *   5  an output is shorter than its answer; in balzenoh_open and balzenoh_open_sha1, shorter than the
+ *      ciphertext
  *   6  the tag differs
  *   7  the tag is right, but the last block is not padded as above
  */
@@ -125,9 +137,14 @@
 extern "C" {
 #endif
 
-/* Bytes of a block, and so of an IV, a mask, a pre-authenticator and a tag. A key has as many, or twice
-   as many. */
+/* Bytes of a block, and so of an IV, a mask and a pre-authenticator. A key has as many, or twice as
+   many. */
 #define BALZENOH_BLOCK 16
+
+/* Bytes of a tag by the cipher finish, and of one by the hash finish, which is as long as a digest of
+   SHA-1. */
+#define BALZENOH_TAG 16
+#define BALZENOH_TAG_SHA1 20
 
 /* Bytes of a run record. */
 #define BALZENOH_RUN_RECORD 24
@@ -135,17 +152,22 @@ extern "C" {
 /* The most blocks that a list has, and that a mask jumps, forward or back. */
 #define BALZENOH_LIMIT 4000
 
-/* Bytes of the longest message, and of the sealed record that it gives. */
+/* Bytes of the longest message, and of the sealed record that it gives by either finish. */
 #define BALZENOH_LONGEST_MESSAGE 63999
 #define BALZENOH_LONGEST_SEALED 64032
+#define BALZENOH_LONGEST_SEALED_SHA1 64036
+
+/* Bytes of the longest text that balzenoh_sha1 takes. */
+#define BALZENOH_LONGEST_TEXT 64032
 
 /* Bytes of a message of n bytes once it is padded: of its ciphertext, and the output that
-   balzenoh_open needs. The same for a last run of n bytes. A middle run keeps its length. */
+   opening it needs. The same for a last run of n bytes. A middle run keeps its length. */
 #define BALZENOH_PADDED_LENGTH(n) ((size_t)BALZENOH_BLOCK * ((size_t)(n) / BALZENOH_BLOCK + 1))
 #define BALZENOH_RUN_LENGTH(n, last) ((last) ? BALZENOH_PADDED_LENGTH(n) : (size_t)(n))
 
-/* Bytes of the sealed record of a message of n bytes. */
-#define BALZENOH_SEALED_LENGTH(n) (BALZENOH_PADDED_LENGTH(n) + 2 * BALZENOH_BLOCK)
+/* Bytes of the sealed record of a message of n bytes, by either finish. */
+#define BALZENOH_SEALED_LENGTH(n) (BALZENOH_PADDED_LENGTH(n) + BALZENOH_BLOCK + BALZENOH_TAG)
+#define BALZENOH_SEALED_LENGTH_SHA1(n) (BALZENOH_PADDED_LENGTH(n) + BALZENOH_BLOCK + BALZENOH_TAG_SHA1)
 
 /* What the functions return. The table above has each in full. */
 enum balzenoh_refusal {
@@ -188,6 +210,30 @@ uint8_t balzenoh_open(const uint8_t *key, size_t key_len,
                       uint8_t *out, size_t out_len, size_t *length);
 
 /*
+ * Seals a message with the hash finish.
+ *
+ * Refusals: 1, 2, 3 (message above 63,999 bytes), 10, 5 (out_len below BALZENOH_SEALED_LENGTH_SHA1 of
+ * message_len).
+ * On success out has the sealed record: IV, ciphertext, tag of 20 bytes; *length is its length.
+ */
+uint8_t balzenoh_seal_sha1(const uint8_t *key, size_t key_len,
+                           const uint8_t *iv, size_t iv_len,
+                           const uint8_t *message, size_t message_len,
+                           uint8_t *out, size_t out_len, size_t *length);
+
+/*
+ * Opens a sealed record with the hash finish.
+ *
+ * Refusals: 1, 3 (sealed_len below 52, above 64,036 or not 36 over a multiple of 16), 10 (with the IV
+ * that the record starts with), 5 (out_len below sealed_len - 36, the length of the ciphertext), 6, 7.
+ * On success out has the message without its padding; *length is the message's length, 1 to 16
+ * bytes less than the ciphertext's.
+ */
+uint8_t balzenoh_open_sha1(const uint8_t *key, size_t key_len,
+                           const uint8_t *sealed, size_t sealed_len,
+                           uint8_t *out, size_t out_len, size_t *length);
+
+/*
  * Seals a run that starts at block `first`: a middle run where `last` is 0, else a last run, which
  * gets the padding and so has at least one block. A middle run may be empty.
  *
@@ -206,7 +252,7 @@ uint8_t balzenoh_seal_run(const uint8_t *key, size_t key_len,
 /*
  * Checks a run of ciphertext that starts at block `first`: gives the run record that sealing it
  * gave, and no plaintext. The run may be empty. Nothing is compared here: join the records, then
- * balzenoh_test.
+ * balzenoh_test or balzenoh_test_sha1.
  *
  * Refusals: 1, 2, 3 (bytes_len no multiple of 16), 4 (first plus the run's blocks above 4,000),
  * 10 (for an empty run too), 5 (run_len below 24).
@@ -264,6 +310,31 @@ uint8_t balzenoh_test(const uint8_t *key, size_t key_len,
                       const uint8_t *tag, size_t tag_len);
 
 /*
+ * Closes the record of a whole list into its tag by the hash finish.
+ *
+ * Refusals: 24, 1, 2, 4, 9 (the record does not start at block 0, or has no block), 10, 5 (tag_len
+ * below 20).
+ * On success tag has the 20 bytes of the tag, then zeros.
+ */
+uint8_t balzenoh_close_sha1(const uint8_t *key, size_t key_len,
+                            const uint8_t *iv, size_t iv_len,
+                            const uint8_t *run, size_t run_len,
+                            uint8_t *tag, size_t tag_len);
+
+/*
+ * Tests a tag by the hash finish against the record of a whole list: 0 if closing the record with that
+ * finish gives that tag.
+ *
+ * Refusals: 24, 1, 2, 3 (tag_len not 20), 4, 9 (the record does not start at block 0, or has no
+ * block), 10, 6.
+ * There is no output.
+ */
+uint8_t balzenoh_test_sha1(const uint8_t *key, size_t key_len,
+                           const uint8_t *iv, size_t iv_len,
+                           const uint8_t *run, size_t run_len,
+                           const uint8_t *tag, size_t tag_len);
+
+/*
  * Jumps a mask by `distance` blocks, -4,000 to 4,000: forward, or back where it is negative. Either way
  * it goes by squaring, not block by block. Forward and back by the same number gives the mask again.
  * Jumped back by its first block, the first mask of a run is the list's start mask; so is the mask
@@ -274,6 +345,16 @@ uint8_t balzenoh_test(const uint8_t *key, size_t key_len,
  */
 uint8_t balzenoh_jump(const uint8_t *mask, size_t mask_len,
                       int32_t distance,
+                      uint8_t *out, size_t out_len);
+
+/*
+ * Gives SHA-1 (FIPS 180-4) of a text of 0 to 64,032 bytes. No claim is made for its strength: it is
+ * here for the hash finish, and for those who check it.
+ *
+ * Refusals: 3 (text_len above 64,032), 5 (out_len below 20).
+ * On success out has the 20 bytes of the digest, then zeros.
+ */
+uint8_t balzenoh_sha1(const uint8_t *text, size_t text_len,
                       uint8_t *out, size_t out_len);
 
 #ifdef __cplusplus
