@@ -57,7 +57,7 @@ int32_t draw_distance(draw *d) {
 }
 
 size_t draw_length(draw *d) {
-    static const uint16_t edges[] = {63967, 63968, 63983, 63984, 63985, 63998, 63999, 64000, 64001, 64015, 64016, 64032, 64048};
+    static const uint16_t edges[] = {63967, 63968, 63983, 63984, 63985, 63998, 63999, 64000, 64001, 64015, 64016, 64032};
     switch (draw_below(d, 32)) {
     case 21:
         return edges[draw_below(d, sizeof edges / sizeof edges[0])];

@@ -7,44 +7,43 @@
 
 /* ---- SHA-1 gone wrong */
 
-static int without_rotation;
+static int hashes_wrongly(void) {
+    return fault_is("length-in-the-wrong-half") || fault_is("length-in-bytes") || fault_is("no-block-added-behind-56-bytes") ||
+           fault_is("schedule-not-rotated");
+}
 
-/* While it is set the words of the schedule are not rotated. */
-void __real_sha1_schedule(uint32_t *, const uint8_t *);
-void __wrap_sha1_schedule(uint32_t word[80], const uint8_t *block) {
-    __real_sha1_schedule(word, block);
-    for (int t = 16; without_rotation && t < 80; t++)
+/* Takes a block into the hash value, perhaps with no word of its schedule rotated. */
+static void take(uint32_t hash[5], const uint8_t *block) {
+    uint32_t word[80];
+    sha1_schedule(word, block);
+    for (int t = 16; fault_is("schedule-not-rotated") && t < 80; t++)
         word[t] = word[t - 3] ^ word[t - 8] ^ word[t - 14] ^ word[t - 16];
+    sha1_steps(hash, word);
 }
 
-static void digest_without_rotation(const uint8_t *text, size_t len, uint8_t *digest) {
-    without_rotation = 1;
-    sha1(text, len, digest);
-    without_rotation = 0;
-}
-
-static int pads_wrongly(void) {
-    return fault_is("length-in-the-wrong-half") || fault_is("length-in-bytes") || fault_is("no-block-added-behind-56-bytes");
-}
-
-/* A digest over padding with one of these faults. The last block has room for the length where less than 56 bytes are in it. */
-static void digest_over_wrong_padding(const uint8_t *text, size_t len, uint8_t *digest) {
-    uint32_t hash[5];
-    uint8_t last[2 * SHA1_BLOCK] = {0};
-    size_t rest = len % SHA1_BLOCK, end = rest < 56 + (size_t)fault_is("no-block-added-behind-56-bytes") ? SHA1_BLOCK : 2 * SHA1_BLOCK;
+/* The last block, or two, with the padding: the last has room for the length where less than 56 bytes are in it. Gives where it ends. */
+static size_t pad(const uint8_t *rest, size_t rest_len, size_t len, uint8_t last[2 * SHA1_BLOCK]) {
+    size_t end = rest_len < 56 + (size_t)fault_is("no-block-added-behind-56-bytes") ? SHA1_BLOCK : 2 * SHA1_BLOCK;
     uint64_t length = fault_is("length-in-bytes") ? len : 8 * (uint64_t)len;
     if (fault_is("length-in-the-wrong-half"))
         length <<= 32;
-    if (rest > 0)
-        memcpy(last, text + (len - rest), rest);
-    last[rest] = 0x80;
+    if (rest_len > 0)
+        memcpy(last, rest, rest_len);
+    last[rest_len] = 0x80;
     for (size_t i = 0; i < 8; i++)
         last[end - 1 - i] = (uint8_t)(length >> (8 * i));
+    return end;
+}
+
+static void wrong_digest(const uint8_t *text, size_t len, uint8_t *digest) {
+    uint32_t hash[5];
+    uint8_t last[2 * SHA1_BLOCK] = {0};
+    size_t rest = len % SHA1_BLOCK, end = pad(text + (len - rest), rest, len, last);
     sha1_start(hash);
     for (size_t i = 0; i + SHA1_BLOCK <= len; i += SHA1_BLOCK)
-        sha1_take(hash, text + i);
+        take(hash, text + i);
     for (size_t i = 0; i < end; i += SHA1_BLOCK)
-        sha1_take(hash, last + i);
+        take(hash, last + i);
     sha1_write(hash, digest);
 }
 
@@ -65,10 +64,8 @@ uint8_t __wrap_balzenoh_sha1(const uint8_t *text, size_t text_len, uint8_t *out,
     }
     if (refusal != 0)
         return refusal;
-    if (pads_wrongly())
-        digest_over_wrong_padding(text, text_len, out);
-    if (fault_is("schedule-not-rotated"))
-        digest_without_rotation(text, text_len, out);
+    if (hashes_wrongly())
+        wrong_digest(text, text_len, out);
     if (fault_is("digest-low-byte-first"))
         reverse_words(out);
     if (fault_is("no-zeros-after-the-digest") && out_len > SHA1_DIGEST)
@@ -98,7 +95,7 @@ static void wrong_tag(const uint8_t *key, size_t key_len, const uint8_t *iv, con
     sha1(text, taken + 32, tag);
 }
 
-static int hashes_wrongly(void) {
+static int finishes_wrongly(void) {
     return fault_is("mask-before-the-pre-authenticator") || fault_is("first-16-bytes-of-a-long-key-hashed") ||
            fault_is("mask-of-the-last-block-hashed") || fault_is("key-hashed-last");
 }
@@ -107,7 +104,7 @@ uint8_t __real_balzenoh_close_sha1(const uint8_t *, size_t, const uint8_t *, siz
 uint8_t __wrap_balzenoh_close_sha1(const uint8_t *key, size_t key_len, const uint8_t *iv, size_t iv_len, const uint8_t *run, size_t run_len,
                                    uint8_t *tag, size_t tag_len) {
     uint8_t refusal = __real_balzenoh_close_sha1(key, key_len, iv, iv_len, run, run_len, tag, tag_len);
-    if (hashes_wrongly() && refusal == 0)
+    if (finishes_wrongly() && refusal == 0)
         wrong_tag(key, key_len, iv, run, tag);
     if (fault_is("tag-of-16-bytes") && refusal == 0)
         memset(tag + 16, 0, 4);

@@ -34,9 +34,8 @@ void sha1_schedule(uint32_t word[80], const uint8_t block[SHA1_BLOCK]) {
         word[t] = rotated(word[t - 3] ^ word[t - 8] ^ word[t - 14] ^ word[t - 16], 1);
 }
 
-void sha1_take(uint32_t hash[5], const uint8_t block[SHA1_BLOCK]) {
-    uint32_t word[80], a = hash[0], b = hash[1], c = hash[2], d = hash[3], e = hash[4];
-    sha1_schedule(word, block);
+void sha1_steps(uint32_t hash[5], const uint32_t word[80]) {
+    uint32_t a = hash[0], b = hash[1], c = hash[2], d = hash[3], e = hash[4];
     for (int t = 0; t < 80; t++) {
         uint32_t sum = rotated(a, 5) + mixed(t, b, c, d) + e + constant(t) + word[t];
         e = d;
@@ -70,15 +69,21 @@ static size_t last_blocks(const uint8_t *rest, size_t rest_len, size_t len, uint
     return end;
 }
 
+static void take(uint32_t hash[5], const uint8_t block[SHA1_BLOCK]) {
+    uint32_t word[80];
+    sha1_schedule(word, block);
+    sha1_steps(hash, word);
+}
+
 void sha1(const uint8_t *text, size_t len, uint8_t digest[SHA1_DIGEST]) {
     uint32_t hash[5];
     uint8_t last[2 * SHA1_BLOCK];
     size_t whole = len - len % SHA1_BLOCK;
     sha1_start(hash);
     for (size_t i = 0; i < whole; i += SHA1_BLOCK)
-        sha1_take(hash, text + i);
+        take(hash, text + i);
     size_t end = last_blocks(whole < len ? text + whole : NULL, len - whole, len, last);
     for (size_t i = 0; i < end; i += SHA1_BLOCK)
-        sha1_take(hash, last + i);
+        take(hash, last + i);
     sha1_write(hash, digest);
 }

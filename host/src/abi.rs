@@ -35,4 +35,23 @@ extern "C" {
     pub fn balzenoh_jump(
         mask: *const u8, mask_len: usize, distance: i32, out: *mut u8, out_len: usize,
     ) -> u8;
+    pub fn balzenoh_sha1(
+        text: *const u8, text_len: usize, out: *mut u8, out_len: usize,
+    ) -> u8;
+    pub fn balzenoh_seal_sha1(
+        key: *const u8, key_len: usize, iv: *const u8, iv_len: usize, message: *const u8, message_len: usize,
+        out: *mut u8, out_len: usize, length: *mut usize,
+    ) -> u8;
+    pub fn balzenoh_open_sha1(
+        key: *const u8, key_len: usize, sealed: *const u8, sealed_len: usize,
+        out: *mut u8, out_len: usize, length: *mut usize,
+    ) -> u8;
+    pub fn balzenoh_close_sha1(
+        key: *const u8, key_len: usize, iv: *const u8, iv_len: usize, run: *const u8, run_len: usize,
+        tag: *mut u8, tag_len: usize,
+    ) -> u8;
+    pub fn balzenoh_test_sha1(
+        key: *const u8, key_len: usize, iv: *const u8, iv_len: usize, run: *const u8, run_len: usize,
+        tag: *const u8, tag_len: usize,
+    ) -> u8;
 }

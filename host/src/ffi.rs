@@ -8,13 +8,18 @@
 //! writes an input, and answers all lengths, bytes and numbers.
 
 use crate::abi::*;
+use crate::finish::Finish;
 
 #[rustfmt::skip]
-pub fn seal(key: &[u8], iv: &[u8], message: &[u8], out: &mut [u8]) -> (u8, usize) {
+pub fn seal(finish: Finish, key: &[u8], iv: &[u8], message: &[u8], out: &mut [u8]) -> (u8, usize) {
+    let call = match finish {
+        Finish::Cipher => balzenoh_seal,
+        Finish::Sha1 => balzenoh_seal_sha1,
+    };
     let mut length = 0;
     // SAFETY: slices valid for their lengths, `out` and `length` borrowed exclusively (see above).
     let number = unsafe {
-        balzenoh_seal(
+        call(
             key.as_ptr(), key.len(), iv.as_ptr(), iv.len(), message.as_ptr(), message.len(),
             out.as_mut_ptr(), out.len(), &mut length,
         )
@@ -23,11 +28,15 @@ pub fn seal(key: &[u8], iv: &[u8], message: &[u8], out: &mut [u8]) -> (u8, usize
 }
 
 #[rustfmt::skip]
-pub fn open(key: &[u8], sealed: &[u8], out: &mut [u8]) -> (u8, usize) {
+pub fn open(finish: Finish, key: &[u8], sealed: &[u8], out: &mut [u8]) -> (u8, usize) {
+    let call = match finish {
+        Finish::Cipher => balzenoh_open,
+        Finish::Sha1 => balzenoh_open_sha1,
+    };
     let mut length = 0;
     // SAFETY: slices valid for their lengths, `out` and `length` borrowed exclusively (see above).
     let number = unsafe {
-        balzenoh_open(
+        call(
             key.as_ptr(), key.len(), sealed.as_ptr(), sealed.len(),
             out.as_mut_ptr(), out.len(), &mut length,
         )
@@ -82,20 +91,28 @@ pub fn join_list(records: &[u8], run: &mut [u8]) -> u8 {
 }
 
 #[rustfmt::skip]
-pub fn close(key: &[u8], iv: &[u8], run: &[u8], tag: &mut [u8]) -> u8 {
+pub fn close(finish: Finish, key: &[u8], iv: &[u8], run: &[u8], tag: &mut [u8]) -> u8 {
+    let call = match finish {
+        Finish::Cipher => balzenoh_close,
+        Finish::Sha1 => balzenoh_close_sha1,
+    };
     // SAFETY: slices valid for their lengths, `tag` borrowed exclusively (see above).
     unsafe {
-        balzenoh_close(
+        call(
             key.as_ptr(), key.len(), iv.as_ptr(), iv.len(), run.as_ptr(), run.len(), tag.as_mut_ptr(), tag.len(),
         )
     }
 }
 
 #[rustfmt::skip]
-pub fn test(key: &[u8], iv: &[u8], run: &[u8], tag: &[u8]) -> u8 {
+pub fn test(finish: Finish, key: &[u8], iv: &[u8], run: &[u8], tag: &[u8]) -> u8 {
+    let call = match finish {
+        Finish::Cipher => balzenoh_test,
+        Finish::Sha1 => balzenoh_test_sha1,
+    };
     // SAFETY: slices valid for their lengths, and nothing is written (see above).
     unsafe {
-        balzenoh_test(
+        call(
             key.as_ptr(), key.len(), iv.as_ptr(), iv.len(), run.as_ptr(), run.len(), tag.as_ptr(), tag.len(),
         )
     }
@@ -107,6 +124,16 @@ pub fn jump(mask: &[u8], distance: i32, out: &mut [u8]) -> u8 {
     unsafe {
         balzenoh_jump(
             mask.as_ptr(), mask.len(), distance, out.as_mut_ptr(), out.len(),
+        )
+    }
+}
+
+#[rustfmt::skip]
+pub fn sha1(text: &[u8], out: &mut [u8]) -> u8 {
+    // SAFETY: slices valid for their lengths, `out` borrowed exclusively (see above).
+    unsafe {
+        balzenoh_sha1(
+            text.as_ptr(), text.len(), out.as_mut_ptr(), out.len(),
         )
     }
 }

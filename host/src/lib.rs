@@ -23,25 +23,34 @@
 //! # Ok::<(), Refusal>(())
 //! ```
 //!
+//! A tag is made by the cipher, or by SHA-1 for verifiers that expect the paper's tag of 20 bytes: [`Finish`] says which, in the
+//! functions whose names end in `_with`. The others go by the cipher.
+//!
 //! A [`Key`] and the pre-authenticator of a [`RunRecord`] are not printed, and are wiped at their end.
 //!
 //! | call | on typed values | on plain slices |
 //! |---|---|---|
 //! | seal a list | [`seal`], [`seal_into`], [`seal_in_runs`] | [`raw::seal`] |
+//! | the same with a finish | [`seal_with`], [`seal_into_with`], [`seal_in_runs_with`] | [`raw::seal_with`] |
 //! | open it | [`open`], [`open_into`] | [`raw::open`] |
+//! | the same with a finish | [`open_with`], [`open_into_with`] | [`raw::open_with`] |
 //! | seal a run of its blocks | [`seal_run`], [`seal_run_into`] | [`raw::seal_run`] |
-//! | check a run of its ciphertext | [`check_run`], [`check_in_runs`] | [`raw::check_run`] |
+//! | check a run of its ciphertext, or all of it in runs | [`check_run`], [`check_in_runs`], [`check_in_runs_with`] | [`raw::check_run`] |
 //! | join run records | [`RunRecord::join`], [`join_list`] | [`raw::join`], [`raw::join_list`] |
-//! | close a record into its tag | [`close`] | [`raw::close`] |
-//! | test a tag | [`test`](fn@test) | [`raw::test`] |
+//! | close a record into its tag | [`close`], [`close_with`] | [`raw::close`], [`raw::close_with`] |
+//! | test a tag | [`test`](fn@test), [`test_with`] | [`raw::test`], [`raw::test_with`] |
 //! | jump a mask, forward or back | [`jump`] | [`raw::jump`] |
+//! | SHA-1 of a text | [`sha1`] | [`raw::sha1`] |
 
 #![deny(unsafe_code)]
 #![warn(missing_docs)]
 
 mod abi;
+mod any_tag;
+mod digest;
 #[allow(unsafe_code)]
 mod ffi;
+mod finish;
 pub mod hex;
 mod key;
 mod mask;
@@ -56,11 +65,14 @@ mod whole;
 #[allow(unsafe_code)]
 mod wipe;
 
+pub use any_tag::AnyTag;
+pub use digest::sha1;
+pub use finish::Finish;
 pub use key::Key;
 pub use mask::jump;
-pub use record::{close, join_list, test, RunRecord};
+pub use record::{close, close_with, join_list, test, test_with, RunRecord};
 pub use refusal::{Refusal, UnknownNumber};
 pub use run::{check_run, seal_run, seal_run_into, Kind};
-pub use spread::{check_in_runs, seal_in_runs};
+pub use spread::{check_in_runs, check_in_runs_with, seal_in_runs, seal_in_runs_with};
 pub use values::{Iv, Tag};
-pub use whole::{open, open_into, seal, seal_into};
+pub use whole::{open, open_into, open_into_with, open_with, seal, seal_into, seal_into_with, seal_with};

@@ -1,4 +1,5 @@
-//! The nine calls on plain slices, exactly as the proved library has them.
+//! The calls on plain slices, exactly as the proved library has them. Those with a [`Finish`] are two functions in the library, one by the
+//! cipher and one by the hash.
 //!
 //! Nothing is checked here: a key of 15 bytes goes to the library, and the library refuses it. On success the answer stands at
 //! the start of the lent output and zeros follow to its end. On a refusal every lent output is zero from end to end.
@@ -6,6 +7,7 @@
 //! Where several refusals hold, the one that a call names first is given.
 
 use crate::ffi;
+use crate::finish::Finish;
 use crate::refusal::Refusal;
 
 /// Seals a whole message. The answer is IV, ciphertext and tag; its length is returned.
@@ -25,7 +27,25 @@ use crate::refusal::Refusal;
 /// assert_eq!(out, [0; 48]);
 /// ```
 pub fn seal(key: &[u8], iv: &[u8], message: &[u8], out: &mut [u8]) -> Result<usize, Refusal> {
-    with_length(ffi::seal(key, iv, message, out))
+    seal_with(Finish::Cipher, key, iv, message, out)
+}
+
+/// Seals a whole message with this finish. The answer is IV, ciphertext and tag; its length is returned.
+///
+/// # Errors
+///
+/// [`KeyLength`](Refusal::KeyLength), [`IvLength`](Refusal::IvLength), [`Length`](Refusal::Length) for a message above 63,999
+/// bytes, [`ZeroMask`](Refusal::ZeroMask), [`OutputTooShort`](Refusal::OutputTooShort).
+///
+/// ```
+/// use balzenoh::{raw, Finish, Refusal};
+///
+/// let mut out = [0xA5; 52];
+/// assert_eq!(raw::seal_with(Finish::Sha1, &[7; 16], &[1; 16], b"cage 12", &mut out), Ok(52));
+/// assert_eq!(raw::seal_with(Finish::Sha1, &[7; 16], &[1; 16], b"cage 12", &mut out[..51]), Err(Refusal::OutputTooShort));
+/// ```
+pub fn seal_with(finish: Finish, key: &[u8], iv: &[u8], message: &[u8], out: &mut [u8]) -> Result<usize, Refusal> {
+    with_length(ffi::seal(finish, key, iv, message, out))
 }
 
 /// Opens a sealed record. `out` must have room for the whole ciphertext; the message's length is returned.
@@ -46,7 +66,29 @@ pub fn seal(key: &[u8], iv: &[u8], message: &[u8], out: &mut [u8]) -> Result<usi
 /// # Ok::<(), Refusal>(())
 /// ```
 pub fn open(key: &[u8], sealed: &[u8], out: &mut [u8]) -> Result<usize, Refusal> {
-    with_length(ffi::open(key, sealed, out))
+    open_with(Finish::Cipher, key, sealed, out)
+}
+
+/// Opens a sealed record with this finish. `out` must have room for the whole ciphertext; the message's length is returned.
+///
+/// # Errors
+///
+/// [`KeyLength`](Refusal::KeyLength), [`Length`](Refusal::Length) for a record that is as long as no record with this finish,
+/// [`ZeroMask`](Refusal::ZeroMask) with the record's IV, [`OutputTooShort`](Refusal::OutputTooShort),
+/// [`TagDiffers`](Refusal::TagDiffers), [`Padding`](Refusal::Padding).
+///
+/// ```
+/// use balzenoh::{raw, Finish, Refusal};
+///
+/// let (mut sealed, mut out) = ([0; 52], [0xA5; 16]);
+/// raw::seal_with(Finish::Sha1, &[7; 16], &[1; 16], b"cage 12", &mut sealed)?;
+/// assert_eq!(raw::open_with(Finish::Sha1, &[7; 16], &sealed, &mut out), Ok(7));
+/// assert_eq!(raw::open_with(Finish::Cipher, &[7; 16], &sealed, &mut out), Err(Refusal::Length));
+/// assert_eq!(out, [0; 16]);
+/// # Ok::<(), Refusal>(())
+/// ```
+pub fn open_with(finish: Finish, key: &[u8], sealed: &[u8], out: &mut [u8]) -> Result<usize, Refusal> {
+    with_length(ffi::open(finish, key, sealed, out))
 }
 
 /// Seals a run of blocks. The ciphertext goes to `out`, its length is returned, and the run's record goes to `run`.
@@ -159,7 +201,29 @@ pub fn join_list(records: &[u8], run: &mut [u8]) -> Result<(), Refusal> {
 /// # Ok::<(), Refusal>(())
 /// ```
 pub fn close(key: &[u8], iv: &[u8], run: &[u8], tag: &mut [u8]) -> Result<(), Refusal> {
-    refused(ffi::close(key, iv, run, tag))
+    close_with(Finish::Cipher, key, iv, run, tag)
+}
+
+/// Closes the record of a whole message into its tag by this finish.
+///
+/// # Errors
+///
+/// [`RecordLength`](Refusal::RecordLength), [`KeyLength`](Refusal::KeyLength), [`IvLength`](Refusal::IvLength),
+/// [`BeyondLimit`](Refusal::BeyondLimit), [`NotWhole`](Refusal::NotWhole), [`ZeroMask`](Refusal::ZeroMask),
+/// [`OutputTooShort`](Refusal::OutputTooShort).
+///
+/// ```
+/// use balzenoh::{raw, Finish, Refusal};
+///
+/// let (mut sealed, mut run, mut tag) = ([0; 52], [0; 24], [0; 20]);
+/// raw::seal_with(Finish::Sha1, &[7; 16], &[1; 16], b"cage 12", &mut sealed)?;
+/// raw::check_run(&[7; 16], &[1; 16], 0, &sealed[16..32], &mut run)?;
+/// raw::close_with(Finish::Sha1, &[7; 16], &[1; 16], &run, &mut tag)?;
+/// assert_eq!(tag, sealed[32..]);
+/// # Ok::<(), Refusal>(())
+/// ```
+pub fn close_with(finish: Finish, key: &[u8], iv: &[u8], run: &[u8], tag: &mut [u8]) -> Result<(), Refusal> {
+    refused(ffi::close(finish, key, iv, run, tag))
 }
 
 /// Tests a tag against the record of a whole message.
@@ -181,7 +245,29 @@ pub fn close(key: &[u8], iv: &[u8], run: &[u8], tag: &mut [u8]) -> Result<(), Re
 /// # Ok::<(), Refusal>(())
 /// ```
 pub fn test(key: &[u8], iv: &[u8], run: &[u8], tag: &[u8]) -> Result<(), Refusal> {
-    refused(ffi::test(key, iv, run, tag))
+    test_with(Finish::Cipher, key, iv, run, tag)
+}
+
+/// Tests a tag by this finish against the record of a whole message.
+///
+/// # Errors
+///
+/// [`RecordLength`](Refusal::RecordLength), [`KeyLength`](Refusal::KeyLength), [`IvLength`](Refusal::IvLength),
+/// [`Length`](Refusal::Length) for a tag that is as long as none with this finish, [`BeyondLimit`](Refusal::BeyondLimit),
+/// [`NotWhole`](Refusal::NotWhole), [`ZeroMask`](Refusal::ZeroMask), [`TagDiffers`](Refusal::TagDiffers).
+///
+/// ```
+/// use balzenoh::{raw, Finish, Refusal};
+///
+/// let (mut sealed, mut run) = ([0; 52], [0; 24]);
+/// raw::seal_with(Finish::Sha1, &[7; 16], &[1; 16], b"cage 12", &mut sealed)?;
+/// raw::check_run(&[7; 16], &[1; 16], 0, &sealed[16..32], &mut run)?;
+/// assert_eq!(raw::test_with(Finish::Sha1, &[7; 16], &[1; 16], &run, &sealed[32..]), Ok(()));
+/// assert_eq!(raw::test_with(Finish::Sha1, &[7; 16], &[1; 16], &run, &sealed[32..48]), Err(Refusal::Length));
+/// # Ok::<(), Refusal>(())
+/// ```
+pub fn test_with(finish: Finish, key: &[u8], iv: &[u8], run: &[u8], tag: &[u8]) -> Result<(), Refusal> {
+    refused(ffi::test(finish, key, iv, run, tag))
 }
 
 /// Jumps a mask by a number of blocks: forward, or back where it is negative.
@@ -204,6 +290,24 @@ pub fn test(key: &[u8], iv: &[u8], run: &[u8], tag: &[u8]) -> Result<(), Refusal
 /// ```
 pub fn jump(mask: &[u8], distance: i32, out: &mut [u8]) -> Result<(), Refusal> {
     refused(ffi::jump(mask, distance, out))
+}
+
+/// SHA-1 of a text. The digest is 20 bytes.
+///
+/// # Errors
+///
+/// [`Length`](Refusal::Length) for a text above 64,032 bytes, [`OutputTooShort`](Refusal::OutputTooShort).
+///
+/// ```
+/// use balzenoh::{raw, Refusal};
+///
+/// let mut out = [0xA5; 24];
+/// assert_eq!(raw::sha1(b"abc", &mut out), Ok(()));
+/// assert_eq!((out[..3].to_vec(), out[20..].to_vec()), (vec![0xA9, 0x99, 0x3E], vec![0; 4]));
+/// assert_eq!(raw::sha1(b"abc", &mut out[..19]), Err(Refusal::OutputTooShort));
+/// ```
+pub fn sha1(text: &[u8], out: &mut [u8]) -> Result<(), Refusal> {
+    refused(ffi::sha1(text, out))
 }
 
 fn with_length((number, length): (u8, usize)) -> Result<usize, Refusal> {

@@ -3,11 +3,13 @@
 use std::fmt;
 use std::str::FromStr;
 
+use crate::any_tag::AnyTag;
+use crate::finish::Finish;
 use crate::hex;
 use crate::key::Key;
 use crate::raw;
 use crate::refusal::Refusal;
-use crate::sizes::{BLOCK, RECORD};
+use crate::sizes::{BLOCK, DIGEST, RECORD};
 use crate::values::{Iv, Tag};
 use crate::wipe::{wipe, Wiped};
 
@@ -183,6 +185,28 @@ pub fn close(key: &Key, iv: &Iv, record: &RunRecord) -> Result<Tag, Refusal> {
     Ok(Tag::from(tag))
 }
 
+/// Closes the record of a whole list into its tag by this finish. A record does not know the finish: it can be closed with either.
+///
+/// # Errors
+///
+/// Those of [`close`].
+///
+/// ```
+/// use balzenoh::{close_with, seal_run, seal_with, Finish, Iv, Key, Kind, Refusal};
+///
+/// let (key, iv, list) = (Key::from([7; 16]), Iv::from([1; 16]), b"parcel 4711 -> cage 12");
+/// let (_, record) = seal_run(&key, &iv, 0, Kind::Last, list)?;
+/// for finish in Finish::ALL {
+///     assert!(seal_with(finish, &key, &iv, list)?.ends_with(close_with(finish, &key, &iv, &record)?.as_bytes()));
+/// }
+/// # Ok::<(), Refusal>(())
+/// ```
+pub fn close_with(finish: Finish, key: &Key, iv: &Iv, record: &RunRecord) -> Result<AnyTag, Refusal> {
+    let mut tag = [0; DIGEST];
+    raw::close_with(finish, key.as_bytes(), iv.as_bytes(), &*record.encoded(), &mut tag)?;
+    AnyTag::from_slice(&tag[..finish.tag_length()])
+}
+
 /// Tests a tag against the record of a whole list: it passes if closing gives that tag.
 ///
 /// # Errors
@@ -201,4 +225,26 @@ pub fn close(key: &Key, iv: &Iv, record: &RunRecord) -> Result<Tag, Refusal> {
 /// ```
 pub fn test(key: &Key, iv: &Iv, record: &RunRecord, tag: &Tag) -> Result<(), Refusal> {
     raw::test(key.as_bytes(), iv.as_bytes(), &*record.encoded(), tag.as_bytes())
+}
+
+/// Tests a tag by this finish against the record of a whole list: it passes if closing with it gives that tag.
+///
+/// # Errors
+///
+/// Those of [`close`], [`Refusal::Length`] for a tag by the other finish, and [`Refusal::TagDiffers`].
+///
+/// ```
+/// use balzenoh::{check_run, seal_with, test_with, AnyTag, Finish, Iv, Key, Refusal};
+///
+/// let (key, iv) = (Key::from([7; 16]), Iv::from([1; 16]));
+/// let sealed = seal_with(Finish::Sha1, &key, &iv, b"parcel 4711 -> cage 12")?;
+/// let record = check_run(&key, &iv, 0, &sealed[16..48])?;
+/// let tag = AnyTag::try_from(&sealed[48..])?;
+/// assert_eq!(test_with(Finish::Sha1, &key, &iv, &record, &tag), Ok(()));
+/// assert_eq!(test_with(Finish::Cipher, &key, &iv, &record, &tag), Err(Refusal::Length));
+/// assert_eq!(test_with(Finish::Sha1, &key, &iv, &record, &AnyTag::from([0; 20])), Err(Refusal::TagDiffers));
+/// # Ok::<(), Refusal>(())
+/// ```
+pub fn test_with(finish: Finish, key: &Key, iv: &Iv, record: &RunRecord, tag: &AnyTag) -> Result<(), Refusal> {
+    raw::test_with(finish, key.as_bytes(), iv.as_bytes(), &*record.encoded(), tag.as_bytes())
 }

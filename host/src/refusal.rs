@@ -18,7 +18,7 @@ pub enum Refusal {
     KeyLength,
     /// 2: the IV is not 16 bytes.
     IvLength,
-    /// 3: the message, sealed record, run, tag or mask has a length that no such thing has.
+    /// 3: the message, sealed record, run, tag, mask or text has a length that no such thing has.
     Length,
     /// 4: the blocks reach beyond the limit of 4,000, or a jump does, forward or back.
     BeyondLimit,
@@ -71,7 +71,8 @@ const TABLE: [(u8, Refusal, &str); 11] = [
         Refusal::Length,
         "Something has a length that it cannot have. A list to seal has at most 63,999 bytes. A sealed list has 48 to 64,032 \
          bytes, and 16 divides its size, as it does that of every part of a list but the last one before sealing. A tag or mask \
-         has 16 bytes. Look whether the file is the right one and was copied whole.",
+         has 16 bytes. With the hash finish a sealed list and a tag have 4 bytes more. A text for SHA-1 has at most 64,032 bytes. \
+         Look whether the file is the right one and was copied whole, and whether both machines have the same finish.",
     ),
     (
         4,

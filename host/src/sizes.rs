@@ -1,5 +1,7 @@
 //! The sizes of things, in bytes, and the room that each answer needs.
 
+use crate::finish::Finish;
+
 /// A block.
 pub const BLOCK: usize = 16;
 /// A key: of AES-128, or of AES-256.
@@ -10,8 +12,24 @@ pub const RECORD: usize = 24;
 pub const LIMIT: usize = 4_000;
 /// The longest message; its padding fills the last block.
 pub const LONGEST_MESSAGE: usize = LIMIT * BLOCK - 1;
-/// What a sealed record has beside its ciphertext: IV and tag.
-pub const AROUND: usize = 2 * BLOCK;
+/// What a sealed record has beside its ciphertext: IV and tag, the tag being that of the cipher finish.
+pub const AROUND: usize = around(Finish::Cipher);
+/// A digest of SHA-1, and so a tag by the hash finish.
+pub const DIGEST: usize = 20;
+/// The longest text for SHA-1.
+pub const LONGEST_TEXT: usize = 64_032;
+
+/// What a sealed record with this finish has beside its ciphertext: IV and tag.
+///
+/// ```
+/// use balzenoh::sizes::around;
+/// use balzenoh::Finish;
+///
+/// assert_eq!(Finish::ALL.map(around), [32, 36]);
+/// ```
+pub const fn around(finish: Finish) -> usize {
+    BLOCK + finish.tag_length()
+}
 
 /// The number of blocks of a message of this length, with its padding.
 ///
@@ -32,10 +50,22 @@ pub const fn padded_blocks(length: usize) -> usize {
 /// assert_eq!([0, 16, 63_999, 64_000].map(sealed_room), [48, 64, 64_032, 0]);
 /// ```
 pub const fn sealed_room(message: usize) -> usize {
+    sealed_room_with(Finish::Cipher, message)
+}
+
+/// The same with this finish.
+///
+/// ```
+/// use balzenoh::sizes::sealed_room_with;
+/// use balzenoh::Finish;
+///
+/// assert_eq!([0, 16, 63_999, 64_000].map(|message| sealed_room_with(Finish::Sha1, message)), [52, 68, 64_036, 0]);
+/// ```
+pub const fn sealed_room_with(finish: Finish, message: usize) -> usize {
     if message > LONGEST_MESSAGE {
         return 0;
     }
-    padded_blocks(message) * BLOCK + AROUND
+    padded_blocks(message) * BLOCK + around(finish)
 }
 
 /// The room that opening a sealed record needs: that of its ciphertext. A record over the limit gets no room.
@@ -46,10 +76,22 @@ pub const fn sealed_room(message: usize) -> usize {
 /// assert_eq!([0, 48, 64_032, 64_048].map(open_room), [0, 16, 64_000, 0]);
 /// ```
 pub const fn open_room(sealed: usize) -> usize {
-    if sealed > LIMIT * BLOCK + AROUND {
+    open_room_with(Finish::Cipher, sealed)
+}
+
+/// The same with this finish.
+///
+/// ```
+/// use balzenoh::sizes::open_room_with;
+/// use balzenoh::Finish;
+///
+/// assert_eq!([0, 52, 64_036, 64_052].map(|sealed| open_room_with(Finish::Sha1, sealed)), [0, 16, 64_000, 0]);
+/// ```
+pub const fn open_room_with(finish: Finish, sealed: usize) -> usize {
+    if sealed > LIMIT * BLOCK + around(finish) {
         return 0;
     }
-    sealed.saturating_sub(AROUND)
+    sealed.saturating_sub(around(finish))
 }
 
 /// The room that the ciphertext of a run needs. A run over the limit gets no room.

@@ -10,12 +10,14 @@ use std::panic::resume_unwind;
 use std::sync::{Mutex, PoisonError};
 use std::thread::{self, Builder};
 
+use crate::any_tag::AnyTag;
+use crate::finish::Finish;
 use crate::key::Key;
-use crate::record::{close, join_list, test, RunRecord};
+use crate::record::{close_with, join_list, test_with, RunRecord};
 use crate::refusal::Refusal;
 use crate::run::{check_run, seal_run_into, Kind};
-use crate::sizes::{padded_blocks, sealed_room, AROUND, BLOCK, LIMIT, LONGEST_MESSAGE};
-use crate::values::{Iv, Tag};
+use crate::sizes::{around, padded_blocks, sealed_room_with, BLOCK, LIMIT, LONGEST_MESSAGE};
+use crate::values::Iv;
 
 /// Seals a message in runs, on threads, and gives the very bytes of [`seal`](crate::seal).
 ///
@@ -33,17 +35,41 @@ use crate::values::{Iv, Tag};
 /// assert_eq!(seal_in_runs(&key, &iv, list, 2, 2), seal(&key, &iv, list));
 /// ```
 pub fn seal_in_runs(key: &Key, iv: &Iv, message: &[u8], runs: usize, threads: usize) -> Result<Vec<u8>, Refusal> {
+    seal_in_runs_with(Finish::Cipher, key, iv, message, runs, threads)
+}
+
+/// Seals a message in runs, on threads, with this finish, and gives the very bytes of [`seal_with`](crate::seal_with). Runs and
+/// threads are as many as in [`seal_in_runs`].
+///
+/// # Errors
+///
+/// Those of [`seal`](crate::seal).
+///
+/// ```
+/// use balzenoh::{seal_in_runs_with, seal_with, Finish, Iv, Key};
+///
+/// let (key, iv, list) = (Key::from([7; 16]), Iv::from([1; 16]), b"parcel 4711 -> cage 12");
+/// assert_eq!(seal_in_runs_with(Finish::Sha1, &key, &iv, list, 2, 2), seal_with(Finish::Sha1, &key, &iv, list));
+/// ```
+pub fn seal_in_runs_with(
+    finish: Finish,
+    key: &Key,
+    iv: &Iv,
+    message: &[u8],
+    runs: usize,
+    threads: usize,
+) -> Result<Vec<u8>, Refusal> {
     if message.len() > LONGEST_MESSAGE {
         return Err(Refusal::Length);
     }
     let blocks = padded_blocks(message.len());
-    let mut sealed = vec![0; sealed_room(message.len())];
+    let mut sealed = vec![0; sealed_room_with(finish, message.len())];
     let ciphertext = &mut sealed[BLOCK..][..blocks * BLOCK];
     let mut jobs = sealing_jobs(message, ciphertext, &cut(blocks, runs));
     let records = share_out(&mut jobs, threads, |job| {
         seal_run_into(key, iv, job.first, job.kind, job.bytes, job.out).map(|(_, record)| record)
     })?;
-    let tag = close(key, iv, &join_list(&records)?)?;
+    let tag = close_with(finish, key, iv, &join_list(&records)?)?;
     sealed[..BLOCK].copy_from_slice(iv.as_bytes());
     sealed[(blocks + 1) * BLOCK..].copy_from_slice(tag.as_bytes());
     Ok(sealed)
@@ -66,17 +92,38 @@ pub fn seal_in_runs(key: &Key, iv: &Iv, message: &[u8], runs: usize, threads: us
 /// # Ok::<(), Refusal>(())
 /// ```
 pub fn check_in_runs(key: &Key, sealed: &[u8], runs: usize, threads: usize) -> Result<(), Refusal> {
-    let blocks = (sealed.len() / BLOCK).saturating_sub(AROUND / BLOCK);
-    if !sealed.len().is_multiple_of(BLOCK) || blocks == 0 || blocks > LIMIT {
+    check_in_runs_with(Finish::Cipher, key, sealed, runs, threads)
+}
+
+/// Checks a sealed record in runs, on threads, with this finish. It passes where [`open_with`](crate::open_with) gives a message, or
+/// refuses for the padding alone. Runs and threads are as many as in [`seal_in_runs`].
+///
+/// # Errors
+///
+/// Those of [`open_with`](crate::open_with) but [`Refusal::Padding`].
+///
+/// ```
+/// use balzenoh::{check_in_runs_with, seal_with, Finish, Iv, Key, Refusal};
+///
+/// let key = Key::from([7; 16]);
+/// let sealed = seal_with(Finish::Sha1, &key, &Iv::from([1; 16]), b"parcel 4711 -> cage 12")?;
+/// assert_eq!(check_in_runs_with(Finish::Sha1, &key, &sealed, 2, 2), Ok(()));
+/// assert_eq!(check_in_runs_with(Finish::Cipher, &key, &sealed, 2, 2), Err(Refusal::Length));
+/// # Ok::<(), Refusal>(())
+/// ```
+pub fn check_in_runs_with(finish: Finish, key: &Key, sealed: &[u8], runs: usize, threads: usize) -> Result<(), Refusal> {
+    let ciphertext = sealed.len().saturating_sub(around(finish));
+    let blocks = ciphertext / BLOCK;
+    if !ciphertext.is_multiple_of(BLOCK) || blocks == 0 || blocks > LIMIT {
         return Err(Refusal::Length);
     }
     let iv = Iv::from_slice(&sealed[..BLOCK])?;
-    let tag = Tag::from_slice(&sealed[(blocks + 1) * BLOCK..])?;
+    let tag = AnyTag::from_slice(&sealed[(blocks + 1) * BLOCK..])?;
     let ciphertext = &sealed[BLOCK..][..blocks * BLOCK];
     let records = share_out(&mut cut(blocks, runs), threads, |run| {
         check_run(key, &iv, run.start as u32, &ciphertext[run.start * BLOCK..run.end * BLOCK])
     })?;
-    test(key, &iv, &join_list(&records)?, &tag)
+    test_with(finish, key, &iv, &join_list(&records)?, &tag)
 }
 
 /// A run to seal: what is read, and the part of the output that is its own.

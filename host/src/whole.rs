@@ -1,9 +1,10 @@
 //! Sealing and opening whole lists.
 
+use crate::finish::Finish;
 use crate::key::Key;
 use crate::raw;
 use crate::refusal::Refusal;
-use crate::sizes::{open_room, sealed_room};
+use crate::sizes::{open_room_with, sealed_room_with};
 use crate::values::Iv;
 
 /// Seals a message of up to 63,999 bytes. The sealed record is the IV, the ciphertext and the tag.
@@ -26,8 +27,29 @@ use crate::values::Iv;
 /// # Ok::<(), Refusal>(())
 /// ```
 pub fn seal(key: &Key, iv: &Iv, message: &[u8]) -> Result<Vec<u8>, Refusal> {
-    let mut out = vec![0; sealed_room(message.len())];
-    let length = seal_into(key, iv, message, &mut out)?;
+    seal_with(Finish::Cipher, key, iv, message)
+}
+
+/// Seals a message of up to 63,999 bytes with this finish. The sealed record is the IV, the ciphertext and the tag.
+///
+/// # Errors
+///
+/// Those of [`seal`].
+///
+/// ```
+/// use balzenoh::{seal, seal_with, Finish, Iv, Key, Refusal};
+///
+/// let (key, iv, list) = (Key::from([7; 16]), Iv::from([1; 16]), b"parcel 4711 -> cage 12");
+/// let sealed = seal_with(Finish::Sha1, &key, &iv, list)?;
+/// assert_eq!(sealed.len(), 16 + 32 + 20);
+/// // The ciphertext is the same with either finish.
+/// assert_eq!(sealed[..48], seal(&key, &iv, list)?[..48]);
+/// assert_eq!(seal_with(Finish::Cipher, &key, &iv, list), seal(&key, &iv, list));
+/// # Ok::<(), Refusal>(())
+/// ```
+pub fn seal_with(finish: Finish, key: &Key, iv: &Iv, message: &[u8]) -> Result<Vec<u8>, Refusal> {
+    let mut out = vec![0; sealed_room_with(finish, message.len())];
+    let length = seal_into_with(finish, key, iv, message, &mut out)?;
     out.truncate(length);
     Ok(out)
 }
@@ -49,7 +71,27 @@ pub fn seal(key: &Key, iv: &Iv, message: &[u8]) -> Result<Vec<u8>, Refusal> {
 /// assert_eq!(out[..63], [0; 63]);
 /// ```
 pub fn seal_into(key: &Key, iv: &Iv, message: &[u8], out: &mut [u8]) -> Result<usize, Refusal> {
-    raw::seal(key.as_bytes(), iv.as_bytes(), message, out)
+    seal_into_with(Finish::Cipher, key, iv, message, out)
+}
+
+/// Seals with this finish into a lent output and returns the sealed record's length. All bytes beyond it are zero; on a refusal all
+/// are.
+///
+/// # Errors
+///
+/// Those of [`seal`], and [`Refusal::OutputTooShort`] for an output below
+/// [`sealed_room_with`](crate::sizes::sealed_room_with) of finish and message.
+///
+/// ```
+/// use balzenoh::{seal_into_with, Finish, Iv, Key, Refusal};
+///
+/// let (key, iv) = (Key::from([7; 16]), Iv::from([1; 16]));
+/// let mut out = [0xA5; 100];
+/// assert_eq!(seal_into_with(Finish::Sha1, &key, &iv, b"parcel 4711 -> cage 12", &mut out), Ok(68));
+/// assert_eq!(out[68..], [0; 32]);
+/// ```
+pub fn seal_into_with(finish: Finish, key: &Key, iv: &Iv, message: &[u8], out: &mut [u8]) -> Result<usize, Refusal> {
+    raw::seal_with(finish, key.as_bytes(), iv.as_bytes(), message, out)
 }
 
 /// Opens a sealed record.
@@ -71,8 +113,30 @@ pub fn seal_into(key: &Key, iv: &Iv, message: &[u8], out: &mut [u8]) -> Result<u
 /// # Ok::<(), Refusal>(())
 /// ```
 pub fn open(key: &Key, sealed: &[u8]) -> Result<Vec<u8>, Refusal> {
-    let mut out = vec![0; open_room(sealed.len())];
-    let length = open_into(key, sealed, &mut out)?;
+    open_with(Finish::Cipher, key, sealed)
+}
+
+/// Opens a sealed record with this finish.
+///
+/// # Errors
+///
+/// Those of [`open`]; [`Refusal::Length`] with [`Finish::Sha1`] for a record that is below 52 bytes, above 64,036 or not 36 over a
+/// multiple of 16.
+///
+/// ```
+/// use balzenoh::{open_with, seal_with, Finish, Iv, Key, Refusal};
+///
+/// let key = Key::from([7; 16]);
+/// let mut sealed = seal_with(Finish::Sha1, &key, &Iv::from([1; 16]), b"parcel 4711 -> cage 12")?;
+/// assert_eq!(open_with(Finish::Sha1, &key, &sealed)?, b"parcel 4711 -> cage 12");
+/// assert_eq!(open_with(Finish::Cipher, &key, &sealed), Err(Refusal::Length));
+/// sealed[20] ^= 1;
+/// assert_eq!(open_with(Finish::Sha1, &key, &sealed), Err(Refusal::TagDiffers));
+/// # Ok::<(), Refusal>(())
+/// ```
+pub fn open_with(finish: Finish, key: &Key, sealed: &[u8]) -> Result<Vec<u8>, Refusal> {
+    let mut out = vec![0; open_room_with(finish, sealed.len())];
+    let length = open_into_with(finish, key, sealed, &mut out)?;
     out.truncate(length);
     Ok(out)
 }
@@ -96,5 +160,26 @@ pub fn open(key: &Key, sealed: &[u8]) -> Result<Vec<u8>, Refusal> {
 /// # Ok::<(), Refusal>(())
 /// ```
 pub fn open_into(key: &Key, sealed: &[u8], out: &mut [u8]) -> Result<usize, Refusal> {
-    raw::open(key.as_bytes(), sealed, out)
+    open_into_with(Finish::Cipher, key, sealed, out)
+}
+
+/// Opens with this finish into a lent output, which needs room for the whole ciphertext, and returns the message's length. All bytes
+/// beyond it are zero; on a refusal all are.
+///
+/// # Errors
+///
+/// Those of [`open_with`], and [`Refusal::OutputTooShort`] for an output shorter than the ciphertext.
+///
+/// ```
+/// use balzenoh::{open_into_with, seal_with, Finish, Iv, Key, Refusal};
+///
+/// let key = Key::from([7; 16]);
+/// let sealed = seal_with(Finish::Sha1, &key, &Iv::from([1; 16]), b"parcel 4711 -> cage 12")?;
+/// let mut out = [0xA5; 32];
+/// assert_eq!(open_into_with(Finish::Sha1, &key, &sealed, &mut out), Ok(22));
+/// assert_eq!(open_into_with(Finish::Sha1, &key, &sealed, &mut out[..31]), Err(Refusal::OutputTooShort));
+/// # Ok::<(), Refusal>(())
+/// ```
+pub fn open_into_with(finish: Finish, key: &Key, sealed: &[u8], out: &mut [u8]) -> Result<usize, Refusal> {
+    raw::open_with(finish, key.as_bytes(), sealed, out)
 }

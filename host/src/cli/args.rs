@@ -141,15 +141,18 @@ fn require_value(name: &str, takes: &Value, value: &OsStr) -> Result<(), Failure
         Value::File(_) if value.is_empty() => format!("{name} needs the name of a file, and has an empty one"),
         Value::Digits(_) if value == "@" => format!("{name} has no name after the @"),
         Value::Number(_, least, most) if !decimal(value).is_some_and(|number| (*least..=*most).contains(&number)) => {
-            format!("{name} {}, and must be a whole number {}", given_number(value), bounds(*least, *most))
+            format!("{name} {}, and must be a whole number {}", given(value), bounds(*least, *most))
+        }
+        Value::Choice(_, words) if !words.iter().any(|word| value == *word) => {
+            format!("{name} {}, and must be {}", given(value), words.join(" or "))
         }
         _ => return Ok(()),
     };
     Err(Failure::Usage(wrong))
 }
 
-/// What was given for a number. A long text may be a key, and is not repeated.
-pub fn given_number(value: &OsStr) -> String {
+/// What was given for a number or a word. A long text may be a key, and is not repeated.
+pub fn given(value: &OsStr) -> String {
     match value.len() {
         0 => "is empty".to_string(),
         1..=20 => format!("is {}", shown(value)),

@@ -9,15 +9,22 @@ use super::table::{self, Command, Opt, Value, COMMANDS, HELP, VERSION};
 pub const TITLE: &str = "seals and opens route lists (Cipher-State mode over AES-128 or AES-256, over a proved library)";
 
 /// What holds for all commands.
-pub const SECTIONS: [(&str, &str); 3] = [
+pub const SECTIONS: [(&str, &str); 4] = [
     (
         "VALUES",
         "A key, IV, tag, mask or record is given as hexadecimal digits, or as @FILE; @- is standard input. The file holds the \
-         bytes themselves, or their digits and a line end. A file of exactly the right size (16 bytes; a record 24) is always \
+         bytes themselves, or their digits and a line end. A file of exactly the right size (16 bytes; a record 24, a tag with --finish sha1 20) is always \
          taken as the bytes themselves; for a key one of 32 bytes too, unless they are digits, with or without a line end. A value of any other length is refused by its \
          number, and so is one that is not made of digits. A key of 16 bytes is one of AES-128, a key of 32 bytes one of AES-256. \
          Keys on the command line are seen by others on the machine: use a file. Zero bytes are no key: load a real one before \
          the first list.",
+    ),
+    (
+        "FINISHES",
+        "The tag of a list is made by the cipher, and has 16 bytes, or with --finish sha1 by SHA-1, and has 20; that is for \
+         verifiers that expect the paper's longer tag. The ciphertext is the same. A sealed list does not say how its tag was \
+         made: name the same finish wherever it is sealed, opened, checked, closed or tested. With the other one its length is \
+         refused. No claim is made for the strength of SHA-1.",
     ),
     (
         "INPUT AND OUTPUT",

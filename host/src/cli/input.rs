@@ -1,17 +1,16 @@
-//! The input of a command: a list, a sealed list, or a run of one.
+//! The input of a command: a list, a sealed list, a run of one, or a text.
 
-use balzenoh::sizes::{padded_blocks, AROUND, BLOCK, LIMIT, LONGEST_MESSAGE};
-use balzenoh::Refusal;
+use balzenoh::sizes::{around, padded_blocks, BLOCK, LIMIT, LONGEST_MESSAGE, LONGEST_TEXT};
+use balzenoh::{Finish, Refusal};
 
-use super::args::{given_number, Args};
+use super::args::{given, Args};
 use super::failure::Failure;
 use super::faults::Faults;
+use super::finish::{spelled, with};
 use super::names::{counted, grouped, shown};
 use super::source::Source;
 use super::table;
 
-const SHORTEST_SEALED: usize = BLOCK + AROUND;
-const LONGEST_SEALED: usize = LIMIT * BLOCK + AROUND;
 /// Of a run that is too long, one block more than a list may have is read: whole blocks, so that it is refused for their number.
 const LONGEST_RUN: usize = (LIMIT + 1) * BLOCK - 1;
 
@@ -24,17 +23,41 @@ pub fn list(args: &Args, faults: &mut Faults) -> Result<Vec<u8>, Failure> {
     Ok(bytes)
 }
 
-/// A sealed list.
-pub fn sealed(args: &Args, faults: &mut Faults) -> Result<Vec<u8>, Failure> {
-    let (name, bytes) = read(args, LONGEST_SEALED)?;
-    let fits = (SHORTEST_SEALED..=LONGEST_SEALED).contains(&bytes.len()) && bytes.len().is_multiple_of(BLOCK);
-    faults.unless(fits, Refusal::Length, || {
-        let (least, most) = (grouped(SHORTEST_SEALED), grouped(LONGEST_SEALED));
-        let length = match bytes.len() {
-            length if length > LONGEST_SEALED => format!("more than {most} bytes"),
-            length => counted(length, "byte"),
-        };
-        format!("{name} has {length}, and a sealed list has {least} to {most}, a multiple of {BLOCK}")
+/// A sealed list with this finish. Of any that is too long, enough is read to see whether it was sealed with another.
+pub fn sealed(args: &Args, finish: Finish, faults: &mut Faults) -> Result<Vec<u8>, Failure> {
+    let (name, bytes) = read(args, longest_sealed(Finish::Sha1))?;
+    faults.unless(is_sealed(finish, bytes.len()), Refusal::Length, || not_sealed(&name, finish, bytes.len()));
+    Ok(bytes)
+}
+
+const fn longest_sealed(finish: Finish) -> usize {
+    LIMIT * BLOCK + around(finish)
+}
+
+/// Whether a sealed list with this finish can have so many bytes.
+fn is_sealed(finish: Finish, length: usize) -> bool {
+    let ciphertext = length.saturating_sub(around(finish));
+    (1..=LIMIT * BLOCK).contains(&ciphertext) && ciphertext.is_multiple_of(BLOCK)
+}
+
+/// Says why a file of this length is no sealed list, and where it would be one with another finish.
+fn not_sealed(name: &str, finish: Finish, length: usize) -> String {
+    let (least, most) = (grouped(BLOCK + around(finish)), grouped(longest_sealed(finish)));
+    let has = if length > longest_sealed(finish) { format!("more than {most} bytes") } else { counted(length, "byte") };
+    let over = match around(finish) % BLOCK {
+        0 => String::new(),
+        _ => format!("{} over ", around(finish)),
+    };
+    let other = Finish::ALL.into_iter().find(|&other| is_sealed(other, length));
+    let hint = other.map_or(String::new(), |other| format!("; it could be one with {}", spelled(other)));
+    format!("{name} has {has}, and a sealed list{} has {least} to {most}, {over}a multiple of {BLOCK}{hint}", with(finish))
+}
+
+/// A text for SHA-1.
+pub fn text(args: &Args, faults: &mut Faults) -> Result<Vec<u8>, Failure> {
+    let (name, bytes) = read(args, LONGEST_TEXT)?;
+    faults.unless(bytes.len() <= LONGEST_TEXT, Refusal::Length, || {
+        format!("{name} has more than {} bytes, and SHA-1 is taken of no longer text", grouped(LONGEST_TEXT))
     });
     Ok(bytes)
 }
@@ -71,7 +94,7 @@ fn judge_blocks(args: &Args, name: &str, blocks: usize, faults: &mut Faults) {
     faults.unless(first.saturating_add(blocks as i64) <= LIMIT as i64, Refusal::BeyondLimit, || {
         let most = grouped(LIMIT);
         let has = if blocks > LIMIT { format!("more than {most} blocks") } else { counted(blocks, "block") };
-        let first = given_number(args.value(table::FIRST).unwrap_or_default());
+        let first = given(args.value(table::FIRST).unwrap_or_default());
         format!("{name} has {has} and {} {first}, and a list has {most} blocks at most", table::FIRST)
     });
 }

@@ -3,9 +3,10 @@
 use balzenoh::sizes::{BLOCK, LIMIT, RECORD};
 use balzenoh::{raw, Refusal, RunRecord};
 
-use super::args::{given_number, Args};
+use super::args::{given, Args};
 use super::failure::Failure;
 use super::faults::Faults;
+use super::finish::finish;
 use super::names::grouped;
 use super::output::{self, Outputs};
 use super::{standard, table, value};
@@ -39,25 +40,27 @@ fn join_all(records: &[Vec<u8>]) -> Result<[u8; RECORD], Refusal> {
 pub fn close(args: &Args, outputs: &Outputs) -> Result<(), Failure> {
     let mut faults = Faults::default();
     let (key, iv) = (value::key(args, &mut faults)?, value::iv(args, &mut faults)?);
-    let record = one_record(args, &mut faults)?;
-    let mut tag = [0; BLOCK];
-    raw::close(&key, &iv, &record, &mut tag).map_err(|refusal| faults.explain(refusal))?;
+    let (record, finish) = (one_record(args, &mut faults)?, finish(args));
+    let mut tag = vec![0; finish.tag_length()];
+    raw::close_with(finish, &key, &iv, &record, &mut tag).map_err(|refusal| faults.explain(refusal))?;
     outputs.write_tag(&tag)
 }
 
 pub fn test(args: &Args, _: &Outputs) -> Result<(), Failure> {
     let mut faults = Faults::default();
     let (key, iv) = (value::key(args, &mut faults)?, value::iv(args, &mut faults)?);
-    let (tag, record) = (value::tag(args, &mut faults)?, one_record(args, &mut faults)?);
-    raw::test(&key, &iv, &record, &tag).map_err(|refusal| faults.explain(refusal))?;
+    let finish = finish(args);
+    let (tag, record) = (value::tag(args, finish, &mut faults)?, one_record(args, &mut faults)?);
+    raw::test_with(finish, &key, &iv, &record, &tag).map_err(|refusal| faults.explain(refusal))?;
     standard::print("passes\n")
 }
 
 pub fn jump(args: &Args, _: &Outputs) -> Result<(), Failure> {
     let mut faults = Faults::default();
     let mask = value::mask(args, &mut faults)?;
-    let (given, most) = (given_number(args.value(table::DISTANCE).unwrap_or_default()), grouped(LIMIT));
-    faults.add(Refusal::BeyondLimit, format!("{} {given}, and a mask jumps by -{most} to {most} blocks", table::DISTANCE));
+    let (distance_given, most) = (given(args.value(table::DISTANCE).unwrap_or_default()), grouped(LIMIT));
+    faults
+        .add(Refusal::BeyondLimit, format!("{} {distance_given}, and a mask jumps by -{most} to {most} blocks", table::DISTANCE));
     let mut jumped = [0; BLOCK];
     raw::jump(&mask, distance(args), &mut jumped).map_err(|refusal| faults.explain(refusal))?;
     output::print_digits(&jumped)

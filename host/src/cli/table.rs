@@ -3,7 +3,7 @@
 use super::args::Args;
 use super::failure::Failure;
 use super::output::Outputs;
-use super::{check, completions, demo, help, man, record, run, whole};
+use super::{check, completions, demo, digest, finish, help, man, record, run, whole};
 
 /// What an option takes after its name.
 pub enum Value {
@@ -14,6 +14,8 @@ pub enum Value {
     Number(&'static str, i64, i64),
     /// A file to write.
     File(&'static str),
+    /// One of these words.
+    Choice(&'static str, &'static [&'static str]),
 }
 
 impl Value {
@@ -21,7 +23,7 @@ impl Value {
     pub fn name(&self) -> Option<&'static str> {
         match self {
             Self::Nothing => None,
-            Self::Digits(name) | Self::Number(name, ..) | Self::File(name) => Some(name),
+            Self::Digits(name) | Self::Number(name, ..) | Self::File(name) | Self::Choice(name, _) => Some(name),
         }
     }
 }
@@ -98,6 +100,7 @@ pub const LAST: &str = "--last";
 pub const DISTANCE: &str = "--distance";
 pub const RUNS: &str = "--runs";
 pub const THREADS: &str = "--threads";
+pub const FINISH: &str = "--finish";
 pub const OUTPUT: &str = "--output";
 pub const RECORD: &str = "--record";
 
@@ -105,6 +108,8 @@ pub const RECORD: &str = "--record";
 const MOST_THREADS: i64 = 256;
 
 const SIXTEEN: &str = "32 hexadecimal digits, or @FILE";
+const TO_SEAL: &str = "how the tag is made: cipher (16 bytes, the usual one) or sha1 (20 bytes)";
+const AS_SEALED: &str = "how the tag was made: cipher (16 bytes, the usual one) or sha1 (20 bytes)";
 const SIXTEEN_OR_32: &str = "32 or 64 hexadecimal digits, or @FILE";
 
 const fn needed(long: &'static str, value: Value, text: &'static str) -> Opt {
@@ -135,6 +140,10 @@ const fn runs(text: &'static str) -> Opt {
     optional(RUNS, Value::Number("N", 1, i64::MAX), text)
 }
 
+const fn finish(text: &'static str) -> Opt {
+    optional(FINISH, Value::Choice("FINISH", &finish::NAMES), text)
+}
+
 const fn output(text: &'static str) -> Opt {
     Opt { long: OUTPUT, short: Some("-o"), value: Value::File("FILE"), needed: false, text }
 }
@@ -155,7 +164,7 @@ pub static VERSION: Opt = Opt {
     text: "print the version, and from which sources the proved library was built",
 };
 
-pub static COMMANDS: [Command; 13] = [
+pub static COMMANDS: [Command; 14] = [
     Command {
         name: "seal",
         summary: "seal a list",
@@ -166,6 +175,7 @@ pub static COMMANDS: [Command; 13] = [
             iv(SIXTEEN),
             runs("cut the list into N runs, seal each by itself, and join: the same bytes"),
             threads("seal the runs on M threads (1 to 256); without --runs there are M runs"),
+            finish(TO_SEAL),
             output("where the sealed list goes"),
         ],
         operand: Operand::Input,
@@ -180,10 +190,13 @@ pub static COMMANDS: [Command; 13] = [
         name: "open",
         summary: "open a sealed list",
         text: "Opens a sealed list. Nothing of a list that is not as it was sealed is written.",
-        options: &[key(), output("where the list goes")],
+        options: &[key(), finish(AS_SEALED), output("where the list goes")],
         operand: Operand::Input,
         binary: false,
-        examples: &["balzenoh open --key @key routes.sealed -o routes.txt"],
+        examples: &[
+            "balzenoh open --key @key routes.sealed -o routes.txt",
+            "balzenoh open --key @key --finish sha1 routes.sealed -o routes.txt",
+        ],
         work: whole::open,
     },
     Command {
@@ -196,6 +209,7 @@ pub static COMMANDS: [Command; 13] = [
             key(),
             runs("cut the list into N runs and check each by itself: the same answer"),
             threads("check the runs on M threads (1 to 256); without --runs there are M runs"),
+            finish(AS_SEALED),
         ],
         operand: Operand::Input,
         binary: false,
@@ -249,8 +263,9 @@ pub static COMMANDS: [Command; 13] = [
         name: "close",
         summary: "close the record of a whole list into its tag",
         text: "Closes the record of a whole list into its tag. The tag is printed as 32 hexadecimal digits, or goes to the \
-               file as 16 bytes. IV, ciphertexts and tag, one after the other, are the sealed list.",
-        options: &[key(), iv(SIXTEEN), output("where the tag goes")],
+               file as 16 bytes; with --finish sha1 as 40 digits, or as 20 bytes. A record does not know the finish. IV, \
+               ciphertexts and tag, one after the other, are the sealed list.",
+        options: &[key(), iv(SIXTEEN), finish(TO_SEAL), output("where the tag goes")],
         operand: Operand::Record,
         binary: false,
         examples: &["balzenoh close --key @key --iv @iv @whole.rec -o tag", "cat iv 1.run 2.run tag > routes.sealed"],
@@ -263,7 +278,12 @@ pub static COMMANDS: [Command; 13] = [
         options: &[
             key(),
             iv(SIXTEEN),
-            needed(TAG, Value::Digits("TAG"), "32 hexadecimal digits, or @FILE: the last 16 bytes of the sealed list"),
+            needed(
+                TAG,
+                Value::Digits("TAG"),
+                "32 hexadecimal digits, or @FILE: the list's last 16 bytes (sha1: 40 digits, 20 bytes)",
+            ),
+            finish(AS_SEALED),
         ],
         operand: Operand::Record,
         binary: false,
@@ -286,6 +306,17 @@ pub static COMMANDS: [Command; 13] = [
             "balzenoh jump --mask @tail.mask --distance -1200",
         ],
         work: record::jump,
+    },
+    Command {
+        name: "sha1",
+        summary: "print SHA-1 of a text",
+        text: "Prints SHA-1 (FIPS 180-4) of a text of up to 64,032 bytes, as 40 hexadecimal digits. It is the hash of \
+               --finish sha1. No claim is made for its strength.",
+        options: &[],
+        operand: Operand::Input,
+        binary: false,
+        examples: &["balzenoh sha1 routes.txt"],
+        work: digest::sha1,
     },
     Command {
         name: "demo",

@@ -3,8 +3,8 @@
 use std::ffi::OsStr;
 use std::os::unix::ffi::OsStrExt;
 
-use balzenoh::sizes::{BLOCK, KEYS, RECORD as RECORD_SIZE};
-use balzenoh::{hex, Refusal};
+use balzenoh::sizes::{BLOCK, DIGEST, KEYS, RECORD as RECORD_SIZE};
+use balzenoh::{hex, Finish, Refusal};
 
 use super::args::Args;
 use super::failure::Failure;
@@ -23,6 +23,7 @@ pub struct Kind {
 const KEY: Kind = Kind { what: "a key", sizes: &KEYS, refusal: Refusal::KeyLength };
 const IV: Kind = Kind { what: "an IV", sizes: &[BLOCK], refusal: Refusal::IvLength };
 const TAG: Kind = Kind { what: "a tag", sizes: &[BLOCK], refusal: Refusal::Length };
+const TAG_SHA1: Kind = Kind { what: "a tag with --finish sha1", sizes: &[DIGEST], refusal: Refusal::Length };
 const MASK: Kind = Kind { what: "a mask", sizes: &[BLOCK], refusal: Refusal::Length };
 const RECORD: Kind = Kind { what: "a record", sizes: &[RECORD_SIZE], refusal: Refusal::RecordLength };
 
@@ -46,8 +47,12 @@ pub fn iv(args: &Args, faults: &mut Faults) -> Result<Vec<u8>, Failure> {
     option(args, table::IV, &IV, faults)
 }
 
-pub fn tag(args: &Args, faults: &mut Faults) -> Result<Vec<u8>, Failure> {
-    option(args, table::TAG, &TAG, faults)
+pub fn tag(args: &Args, finish: Finish, faults: &mut Faults) -> Result<Vec<u8>, Failure> {
+    let kind = match finish {
+        Finish::Cipher => &TAG,
+        Finish::Sha1 => &TAG_SHA1,
+    };
+    option(args, table::TAG, kind, faults)
 }
 
 pub fn mask(args: &Args, faults: &mut Faults) -> Result<Vec<u8>, Failure> {

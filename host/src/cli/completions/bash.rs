@@ -83,9 +83,10 @@ fn values() -> String {
     for option in COMMANDS.iter().flat_map(|command| command.options) {
         let kind = match option.value {
             Value::Nothing => continue,
-            Value::Digits(_) => "digits",
-            Value::Number(..) => "none",
-            Value::File(_) => "file",
+            Value::Digits(_) => "digits".to_string(),
+            Value::Number(..) => "none".to_string(),
+            Value::File(_) => "file".to_string(),
+            Value::Choice(_, words) => words.join(" "),
         };
         let row = format!("        {}) echo {kind} ;;\n", names(option).collect::<Vec<_>>().join("|"));
         if !rows.contains(&row) {

@@ -56,6 +56,7 @@ fn specification(option: &Opt) -> String {
         Value::Digits(_) => format!(":{value}:_balzenoh_value"),
         Value::Number(..) => format!(":{value}: "),
         Value::File(_) => format!(":{value}:_files"),
+        Value::Choice(_, words) => format!(":{value}:({})", words.join(" ")),
     };
     let (long, short) = if value.is_empty() { ("", "") } else { ("=", "+") };
     match option.short {
