@@ -6,6 +6,7 @@ use std::process::{Command, Stdio};
 use std::sync::OnceLock;
 
 use balzenoh::hex;
+use support::finish::Finish;
 use support::fips197::Fips197;
 use support::mode::Mode;
 use support::pairs;
@@ -15,10 +16,12 @@ use support::random::Random;
 #[allow(dead_code)]
 mod support {
     pub mod cipher;
+    pub mod finish;
     pub mod fips197;
     pub mod mode;
     pub mod pairs;
     pub mod random;
+    pub mod sha1;
 }
 
 const PUBLISHED: &str = "000102030405060708090A0B0C0D0E0F0123456789ABCDEF0123456789ABCDEF00112233445566778899AABBCCDDEEFF";
@@ -57,8 +60,8 @@ fn prints(program: &Path, input: &[u8], lines: &str) {
 fn reference_lines(key: &[u8], iv: &[u8; 16], block: &[u8; 16]) -> String {
     let mode = Mode::<Fips197>::new(key, iv);
     let step = mode.forward(u128::from_be_bytes(*block), mode.start_mask);
-    let tag = mode.tag(1, step.middletext);
-    format!("R1 {:032X}\nT1 {:032X}\nC1 {:032X}\nAUTH {tag:032X}\n", mode.start_mask, step.middletext, step.other)
+    let tag = hex::encode(&mode.tag(Finish::Cipher, 1, step.middletext));
+    format!("R1 {:032X}\nT1 {:032X}\nC1 {:032X}\nAUTH {tag}\n", mode.start_mask, step.middletext, step.other)
 }
 
 fn skipped() {

@@ -7,9 +7,13 @@ mod abi;
 
 use std::ptr::{null, null_mut};
 
-use abi::{balzenoh_check_run, balzenoh_join_list, balzenoh_open, balzenoh_seal, balzenoh_seal_run};
+use abi::{
+    balzenoh_check_run, balzenoh_close, balzenoh_close_sha1, balzenoh_join_list, balzenoh_open, balzenoh_open_sha1, balzenoh_seal,
+};
+use abi::{balzenoh_seal_run, balzenoh_seal_sha1, balzenoh_sha1, balzenoh_test, balzenoh_test_sha1};
 
 use crate::support::call::Call;
+use crate::support::finish::{Finish, FINISHES};
 use crate::support::fips197::Fips197;
 use crate::support::mode::{padded, Mode};
 use crate::support::pairs;
@@ -27,11 +31,11 @@ fn answer(call: &Call, last: u8, random: &mut Random) -> (u8, usize, Vec<u8>, Ve
     // SAFETY: slices valid for their lengths, the outputs distinct.
     let number = unsafe {
         match *call {
-            Call::Seal { key, iv, message, .. } => balzenoh_seal(
+            Call::Seal { finish, key, iv, message, .. } => (if finish == Finish::Sha1 { balzenoh_seal_sha1 } else { balzenoh_seal })(
                 key.as_ptr(), key.len(), iv.as_ptr(), iv.len(), message.as_ptr(), message.len(),
                 out.as_mut_ptr(), out.len(), &mut length,
             ),
-            Call::Open { key, sealed, .. } => balzenoh_open(
+            Call::Open { finish, key, sealed, .. } => (if finish == Finish::Sha1 { balzenoh_open_sha1 } else { balzenoh_open })(
                 key.as_ptr(), key.len(), sealed.as_ptr(), sealed.len(), out.as_mut_ptr(), out.len(), &mut length,
             ),
             Call::SealRun { key, iv, first, bytes, .. } => balzenoh_seal_run(
@@ -58,9 +62,12 @@ fn the_length_is_0_after_a_refusal() {
         let key_length = random.mostly(right, 49);
         let ((key, iv), length) = (pairs::of_lengths(&mut random, [key_length, 16]), random.below(70));
         let (bytes, room, record_room) = (random.bytes(length), random.below(140), random.within(20, 28));
-        let sealed = Mode::<Fips197>::new(&random.block(), &random.block()).seal_blocks(&iv, &padded(&bytes));
-        check(&Call::Seal { key: &key, iv: &iv, message: &bytes, room }, 0, &mut random);
-        check(&Call::Open { key: &key, sealed: &sealed, room }, 0, &mut random);
+        let mode = Mode::<Fips197>::new(&random.block(), &random.block());
+        for finish in FINISHES {
+            let sealed = mode.seal_blocks(finish, &iv, &padded(&bytes));
+            check(&Call::Seal { finish, key: &key, iv: &iv, message: &bytes, room }, 0, &mut random);
+            check(&Call::Open { finish, key: &key, sealed: &sealed, room }, 0, &mut random);
+        }
         let (first, last) = (random.edge(), random.next() as u8);
         let call = Call::SealRun { key: &key, iv: &iv, first, last: last != 0, bytes: &bytes, room, record_room };
         check(&call, last, &mut random);
@@ -125,4 +132,35 @@ fn a_null_pointer_of_length_0_is_answered() {
         ]
     };
     assert_eq!(numbers, [1, 5, 0, 3, 0, 5, 0, 9, 10, 10]);
+}
+
+/// The same with the hash finish, beside the calls of the cipher finish that have an output or a tag of length 0, and an empty text.
+#[test]
+#[rustfmt::skip]
+fn a_null_pointer_of_length_0_is_answered_by_the_hash_finish() {
+    let (key, iv, no, record) = ([7; 16], [9; 16], null::<u8>(), [0, 0, 0, 0, 0, 0, 0, 1, 0, 0, 0, 0, 0, 0, 0, 0, 0, 0, 0, 0, 0, 0, 0, 0]);
+    let (no_key, its_iv) = pairs::replaced(pairs::NO_KEYS[0]);
+    let (mut out, mut length) = ([0xA5; 52], NOISE);
+    let (key, iv, record, out) = (key.as_ptr(), iv.as_ptr(), record.as_ptr(), out.as_mut_ptr());
+    let (no_key, its_iv) = (no_key.as_ptr(), its_iv.as_ptr());
+    // SAFETY: pointers valid for their lengths, or null where the length is 0; the outputs are distinct.
+    let numbers = unsafe {
+        [
+            balzenoh_seal_sha1(no, 0, no, 0, no, 0, null_mut(), 0, &mut length),
+            balzenoh_seal_sha1(key, 16, iv, 16, no, 0, null_mut(), 0, &mut length),
+            balzenoh_seal_sha1(key, 16, iv, 16, no, 0, out, 52, &mut length),
+            balzenoh_seal_sha1(no_key, 16, its_iv, 16, no, 0, null_mut(), 0, &mut length),
+            balzenoh_open_sha1(no, 0, no, 0, null_mut(), 0, &mut length),
+            balzenoh_open_sha1(key, 16, no, 0, null_mut(), 0, &mut length),
+            balzenoh_close_sha1(no, 0, no, 0, no, 0, null_mut(), 0),
+            balzenoh_close_sha1(key, 16, iv, 16, record, 24, null_mut(), 0),
+            balzenoh_close(key, 16, iv, 16, record, 24, null_mut(), 0),
+            balzenoh_test_sha1(no, 0, no, 0, no, 0, no, 0),
+            balzenoh_test_sha1(key, 16, iv, 16, record, 24, no, 0),
+            balzenoh_test(key, 16, iv, 16, record, 24, no, 0),
+            balzenoh_sha1(no, 0, null_mut(), 0),
+            balzenoh_sha1(no, 0, out, 20),
+        ]
+    };
+    assert_eq!(numbers, [1, 5, 0, 10, 1, 3, 24, 5, 5, 24, 3, 3, 5, 0]);
 }

@@ -3,6 +3,7 @@
 
 use crate::support::bench::Bench;
 use crate::support::call::Call;
+use crate::support::finish::{around, other, tag_length, Finish, FINISHES};
 use crate::support::fips197::Fips197;
 use crate::support::mode::{lent, padded, Mode};
 use crate::support::pairs;
@@ -19,7 +20,9 @@ fn over_messages() {
         let text = Text::Message(bench.random.bytes(length));
         let mut segments = Segments::new(key, iv, text, &mut bench.random);
         work(&mut segments, &mut bench);
-        close_as_sealed_whole(&segments, &mut bench);
+        for finish in FINISHES {
+            close_as_sealed_whole(&segments, finish, &mut bench);
+        }
     }
     bench.finish();
 }
@@ -27,17 +30,19 @@ fn over_messages() {
 #[test]
 fn over_sealed_records() {
     let mut bench = Bench::new(plan::CUTS_CHECKED);
-    let mut passed = 0;
+    let mut passed = [0; 2];
     for _ in 0..plan::CUTS {
-        let (key, sealed) = random_sealed(&mut bench.random);
+        let finish = bench.random.pick(&FINISHES);
+        let (key, sealed) = random_sealed(&mut bench.random, finish);
         let (iv, rest) = sealed.split_at(16);
-        let text = Text::Ciphertext(rest[..rest.len() - 16].to_vec());
+        let text = Text::Ciphertext(rest[..rest.len() - tag_length(finish)].to_vec());
         let mut segments = Segments::new(key, iv.try_into().expect("16 bytes"), text, &mut bench.random);
         work(&mut segments, &mut bench);
-        passed += u32::from(test_as_opened_whole(&segments, &sealed, &mut bench));
+        passed[finish as usize] += u32::from(test_as_opened_whole(&segments, finish, &sealed, &mut bench));
+        test_by_the_other_finish(&segments, other(finish), &mut bench);
     }
-    println!("cuts over sealed records: {passed} tags passed");
-    assert!(passed > 1_000);
+    println!("cuts over sealed records: {passed:?} tags passed");
+    assert!(passed.iter().all(|&passed| passed > 1_000));
     bench.finish();
 }
 
@@ -99,27 +104,33 @@ fn join_in_another_way(segments: &mut Segments, bench: &mut Bench) {
 }
 
 /// The single record closes into the tag that sealing the whole message gives.
-fn close_as_sealed_whole(segments: &Segments, bench: &mut Bench) {
+fn close_as_sealed_whole(segments: &Segments, finish: Finish, bench: &mut Bench) {
     let (key, iv, record) = (&segments.key, &segments.iv, segments.record(0));
-    let tag = bench.check(&Call::Close { key, iv, record, room: 16 });
-    assert_eq!((tag.number, &tag.out[..]), (0, &segments.unbroken.tag[..]));
-    assert_eq!(bench.check(&Call::Test { key, iv, record, tag: &tag.out }).number, 0);
+    let tag = bench.check(&Call::Close { finish, key, iv, record, room: tag_length(finish) });
+    assert_eq!((tag.number, &tag.out[..]), (0, segments.unbroken.tag(finish)));
+    assert_eq!(bench.check(&Call::Test { finish, key, iv, record, tag: &tag.out }).number, 0);
     if let Text::Message(message) = &segments.text {
         let whole = [&iv[..], &segments.unbroken.ciphertext, &tag.out].concat();
-        let sealed = bench.check(&Call::Seal { key, iv, message, room: whole.len() });
+        let sealed = bench.check(&Call::Seal { finish, key, iv, message, room: whole.len() });
         assert_eq!(sealed.out, whole);
     }
 }
 
 /// The single record passes a sealed record's tag exactly where opening gives a message or 7.
-fn test_as_opened_whole(segments: &Segments, sealed: &[u8], bench: &mut Bench) -> bool {
+fn test_as_opened_whole(segments: &Segments, finish: Finish, sealed: &[u8], bench: &mut Bench) -> bool {
     let (key, iv, record) = (&segments.key, &segments.iv, segments.record(0));
-    let tag = &sealed[sealed.len() - 16..];
-    let tested = bench.check(&Call::Test { key, iv, record, tag }).number;
-    let opened = bench.check(&Call::Open { key, sealed, room: sealed.len() - 32 }).number;
+    let tag = &sealed[sealed.len() - tag_length(finish)..];
+    let tested = bench.check(&Call::Test { finish, key, iv, record, tag }).number;
+    let opened = bench.check(&Call::Open { finish, key, sealed, room: sealed.len() - around(finish) }).number;
     assert_eq!(tested == 0, matches!(opened, 0 | 7));
-    assert_eq!(tested == 0, tag == segments.unbroken.tag);
+    assert_eq!(tested == 0, tag == segments.unbroken.tag(finish));
     tested == 0
+}
+
+/// The record was made without a finish, and passes the other one's unbroken tag.
+fn test_by_the_other_finish(segments: &Segments, finish: Finish, bench: &mut Bench) {
+    let (key, iv, record, tag) = (&segments.key, &segments.iv, segments.record(0), segments.unbroken.tag(finish));
+    assert_eq!(bench.check(&Call::Test { finish, key, iv, record, tag }).number, 0);
 }
 
 /// Mostly short, sometimes longer, now and then as long as can be.
@@ -132,15 +143,15 @@ fn random_length(random: &mut Random) -> usize {
 }
 
 /// Genuine, with any ciphertext and the right tag, damaged, or any bytes.
-fn random_sealed(random: &mut Random) -> (Vec<u8>, Vec<u8>) {
+fn random_sealed(random: &mut Random, finish: Finish) -> (Vec<u8>, Vec<u8>) {
     let (key, iv) = pairs::sealing(random);
     let length = random_length(random);
     let blocks = padded(&random.bytes(length));
     let mode = Mode::<Fips197>::new(&key, &iv);
     let mut sealed = match random.below(4) {
-        0 => random.bytes(blocks.len() + 32),
-        1 => mode.vouch_for(&iv, &blocks),
-        _ => mode.seal_blocks(&iv, &blocks),
+        0 => random.bytes(blocks.len() + around(finish)),
+        1 => mode.vouch_for(finish, &iv, &blocks),
+        _ => mode.seal_blocks(finish, &iv, &blocks),
     };
     if random.once_in(4) {
         // A key that lends zeros keeps its IV: one bit more could make it a pair that is refused.

@@ -43,7 +43,7 @@ fn every_function_has_an_example_and_its_errors() {
 const TABLE: [u8; 11] = [24, 1, 2, 3, 4, 8, 9, 10, 5, 6, 7];
 
 /// What each call can be refused with.
-const REFUSALS: [(&str, &[u8]); 9] = [
+const REFUSALS: [(&str, &[u8]); 14] = [
     ("seal", &[1, 2, 3, 10, 5]),
     ("open", &[1, 3, 10, 5, 6, 7]),
     ("seal_run", &[1, 2, 3, 4, 10, 5]),
@@ -53,6 +53,11 @@ const REFUSALS: [(&str, &[u8]); 9] = [
     ("close", &[24, 1, 2, 4, 9, 10, 5]),
     ("test", &[24, 1, 2, 3, 4, 9, 10, 6]),
     ("jump", &[3, 4, 5]),
+    ("sha1", &[3, 5]),
+    ("seal_sha1", &[1, 2, 3, 10, 5]),
+    ("open_sha1", &[1, 3, 10, 5, 6, 7]),
+    ("close_sha1", &[24, 1, 2, 4, 9, 10, 5]),
+    ("test_sha1", &[24, 1, 2, 3, 4, 9, 10, 6]),
 ];
 
 /// A file of the package.
@@ -99,7 +104,9 @@ fn the_header_names_the_refusals_of_each_function() {
 fn the_calls_on_slices_name_their_refusals() {
     let source = text_of("src/raw.rs");
     for (name, refusals) in REFUSALS {
-        let errors = last_between(&source, "# Errors", &format!("pub fn {name}(")).split("```").next().expect("a text");
+        // The call by the hash is that with a finish.
+        let function = name.strip_suffix("_sha1").map_or(name.to_string(), |name| format!("{name}_with"));
+        let errors = last_between(&source, "# Errors", &format!("pub fn {function}(")).split("```").next().expect("a text");
         let named = errors.split("](Refusal::").skip(1).filter_map(|rest| rest.split(')').next());
         let expected = refusals.iter().map(|&number| format!("{:?}", Refusal::from_number(number)));
         assert_eq!(named.collect::<Vec<_>>(), expected.collect::<Vec<_>>(), "{name}");

@@ -2,6 +2,7 @@
 
 use crate::support::bench::Bench;
 use crate::support::call::Call;
+use crate::support::finish::FINISHES;
 use crate::support::pairs;
 use crate::support::plan;
 use crate::support::sealed_list::SealedList;
@@ -28,13 +29,15 @@ fn every_number_of_blocks() {
 #[test]
 fn every_block_counts() {
     let mut bench = Bench::new(plan::GROUPS_DAMAGED);
-    for blocks in [1, 2, 31, 32, 33, 63, 64, 65, 97] {
+    for (blocks, finish) in
+        [1, 2, 31, 32, 33, 63, 64, 65, 97].into_iter().flat_map(|blocks| FINISHES.map(|finish| (blocks, finish)))
+    {
         let pair = pairs::sealing(&mut bench.random);
         let list = SealedList::new(&mut bench.random, pair, 16 * blocks - 1);
-        for at in 0..list.sealed.len() {
-            let mut sealed = list.sealed.clone();
+        for at in 0..list.sealed(finish).len() {
+            let mut sealed = list.sealed(finish).to_vec();
             sealed[at] ^= 1 << bench.random.below(8);
-            bench.check(&Call::Open { key: &list.key, sealed: &sealed, room: 16 * blocks });
+            bench.check(&Call::Open { finish, key: &list.key, sealed: &sealed, room: 16 * blocks });
         }
     }
     bench.finish();

@@ -2,6 +2,7 @@
 
 use crate::support::bench::{rooms_around, Bench};
 use crate::support::call::Call;
+use crate::support::finish::{around, ciphertext_length, Finish, FINISHES};
 use crate::support::fips197::Fips197;
 use crate::support::mode::{padded, Mode};
 use crate::support::pairs;
@@ -11,11 +12,11 @@ use crate::support::random::Random;
 #[test]
 fn every_length_with_every_room() {
     let mut bench = Bench::new(plan::OPENING);
-    for length in 0..=600 {
+    for (length, finish) in (0..=600).flat_map(|length| FINISHES.map(|finish| (length, finish))) {
         let ((key, iv), message) = (pairs::any(&mut bench.random), bench.random.bytes(length));
-        let sealed = Mode::<Fips197>::new(&key, &iv).seal_blocks(&iv, &padded(&message));
+        let sealed = Mode::<Fips197>::new(&key, &iv).seal_blocks(finish, &iv, &padded(&message));
         for room in rooms_around(length / 16 * 16 + 16) {
-            let answer = bench.check(&Call::Open { key: &key, sealed: &sealed, room });
+            let answer = bench.check(&Call::Open { finish, key: &key, sealed: &sealed, room });
             assert!(matches!(answer.number, 5 | 10) || answer.out.starts_with(&message));
         }
     }
@@ -25,21 +26,23 @@ fn every_length_with_every_room() {
 #[test]
 fn every_size_around_the_edges() {
     let mut bench = Bench::new(plan::OPENING_EDGES);
-    for length in (0..=100).chain(64_000..=64_060) {
+    for (length, finish) in (0..=100).chain(64_000..=64_060).flat_map(|length| FINISHES.map(|finish| (length, finish))) {
         let ((key, iv), noise) = (pairs::any(&mut bench.random), bench.random.bytes(length));
         let sealed = [&iv, &noise[..]].concat()[..length].to_vec();
-        let vouched = with_right_tag(&key, &sealed);
-        let needed = length.saturating_sub(32);
+        let vouched = with_right_tag(finish, &key, &sealed);
+        let needed = length.saturating_sub(around(finish));
         for room in [0, 1, needed.saturating_sub(1), needed, needed + 20] {
-            bench.check(&Call::Open { key: &key, sealed: &sealed, room });
-            bench.check(&Call::Open { key: &key, sealed: &vouched, room });
+            bench.check(&Call::Open { finish, key: &key, sealed: &sealed, room });
+            bench.check(&Call::Open { finish, key: &key, sealed: &vouched, room });
         }
     }
     for key_length in 0..=48 {
         let key = bench.random.bytes(key_length);
-        for length in [0, 47, 48, 49, 64, 80, 64_033] {
+        for length in [0, 47, 48, 49, 51, 52, 53, 64, 68, 80, 64_033, 64_037] {
             let sealed = bench.random.bytes(length);
-            bench.check(&Call::Open { key: &key, sealed: &sealed, room: 48 });
+            for finish in FINISHES {
+                bench.check(&Call::Open { finish, key: &key, sealed: &sealed, room: 48 });
+            }
         }
     }
     bench.finish();
@@ -51,11 +54,11 @@ fn every_end_of_a_list() {
     let mut bench = Bench::new(plan::OPENING_ENDS);
     let mut found = [0; 11];
     for _ in 0..plan::OPENING_ENDS.calls {
-        let (key, iv) = pairs::any(&mut bench.random);
+        let ((key, iv), finish) = (pairs::any(&mut bench.random), bench.random.pick(&FINISHES));
         let mut blocks = random_blocks(&mut bench.random);
         blocks.extend(likely_end(&mut bench.random));
-        let sealed = Mode::<Fips197>::new(&key, &iv).seal_blocks(&iv, &blocks);
-        let answer = bench.check(&Call::Open { key: &key, sealed: &sealed, room: blocks.len() });
+        let sealed = Mode::<Fips197>::new(&key, &iv).seal_blocks(finish, &iv, &blocks);
+        let answer = bench.check(&Call::Open { finish, key: &key, sealed: &sealed, room: blocks.len() });
         found[usize::from(answer.number)] += 1;
     }
     println!("ends of lists: {} messages, {} refused with 7, {} with 10", found[0], found[7], found[10]);
@@ -80,10 +83,8 @@ fn likely_end(random: &mut Random) -> [u8; 16] {
 }
 
 /// The same IV and ciphertext with the tag that belongs to them, where the size is one of a sealed record.
-fn with_right_tag(key: &[u8], sealed: &[u8]) -> Vec<u8> {
-    if sealed.len() < 48 || !sealed.len().is_multiple_of(16) {
-        return sealed.to_vec();
-    }
+fn with_right_tag(finish: Finish, key: &[u8], sealed: &[u8]) -> Vec<u8> {
+    let Some(length) = ciphertext_length(finish, sealed.len()) else { return sealed.to_vec() };
     let iv: &[u8; 16] = sealed[..16].try_into().expect("16 bytes");
-    Mode::<Fips197>::new(key, iv).vouch_for(iv, &sealed[16..sealed.len() - 16])
+    Mode::<Fips197>::new(key, iv).vouch_for(finish, iv, &sealed[16..][..length])
 }

@@ -3,8 +3,10 @@
 use std::env;
 use std::process::Command;
 
-use balzenoh::{check_in_runs, open, seal, seal_in_runs, Iv, Key, Refusal};
+use balzenoh::{check_in_runs, check_in_runs_with, open_with, seal, seal_in_runs, seal_in_runs_with, seal_with};
+use balzenoh::{Finish, Iv, Key, Refusal};
 
+use crate::support::finish::{around, other, FINISHES};
 use crate::support::pairs;
 use crate::support::random::Random;
 
@@ -15,72 +17,93 @@ const THREADS: [usize; 5] = [0, 1, 2, 3, 8];
 #[test]
 fn sealed_in_runs_as_sealed_whole() {
     let mut random = Random::new(51);
-    for key in [Key::from([51; 16]), Key::from([52; 32])] {
-        sealed_under(&mut random, &key);
+    for (key, finish) in keys_and_finishes() {
+        sealed_under(&mut random, finish, &key);
     }
 }
 
-fn sealed_under(random: &mut Random, key: &Key) {
+fn keys_and_finishes() -> impl Iterator<Item = (Key, Finish)> {
+    [Key::from([51; 16]), Key::from([52; 32])].into_iter().flat_map(|key| FINISHES.map(|finish| (key.clone(), finish)))
+}
+
+fn sealed_under(random: &mut Random, finish: Finish, key: &Key) {
     let iv = Iv::from(random.block());
     for length in LENGTHS {
         let message = random.bytes(length);
-        let whole = seal(key, &iv, &message);
+        let whole = seal_with(finish, key, &iv, &message);
         assert!(whole.is_ok());
         for (runs, threads) in RUNS.iter().flat_map(|&runs| THREADS.map(|threads| (runs, threads))) {
-            assert!(seal_in_runs(key, &iv, &message, runs, threads) == whole, "{length} bytes, {runs} runs, {threads} threads");
+            let sealed = seal_in_runs_with(finish, key, &iv, &message, runs, threads);
+            assert!(sealed == whole, "{finish:?}, {length} bytes, {runs} runs, {threads} threads");
         }
     }
     for length in [64_000, 64_001, 200_000] {
-        assert_eq!(seal_in_runs(key, &iv, &vec![0; length], 4, 2), Err(Refusal::Length));
+        assert_eq!(seal_in_runs_with(finish, key, &iv, &vec![0; length], 4, 2), Err(Refusal::Length));
+    }
+}
+
+/// Where no finish is named it is the cipher's.
+#[test]
+fn the_usual_finish_is_the_ciphers() {
+    let mut random = Random::new(55);
+    let (key, iv) = (Key::from([51; 16]), Iv::from(random.block()));
+    for length in LENGTHS {
+        let message = random.bytes(length);
+        let sealed = seal_with(Finish::Cipher, &key, &iv, &message).expect("within the limit");
+        assert_eq!(seal(&key, &iv, &message).as_ref(), Ok(&sealed));
+        assert_eq!(seal_in_runs(&key, &iv, &message, 3, 2).as_ref(), Ok(&sealed));
+        assert_eq!(check_in_runs(&key, &sealed, 3, 2), Ok(()));
     }
 }
 
 #[test]
 fn checked_in_runs_as_opened_whole() {
     let mut random = Random::new(52);
-    for key in [Key::from([51; 16]), Key::from([52; 32])] {
-        checked_under(&mut random, &key);
+    for (key, finish) in keys_and_finishes() {
+        checked_under(&mut random, finish, &key);
     }
 }
 
-fn checked_under(random: &mut Random, key: &Key) {
+fn checked_under(random: &mut Random, finish: Finish, key: &Key) {
     let iv = Iv::from(random.block());
     for length in LENGTHS {
-        let mut sealed = seal(key, &iv, &random.bytes(length)).expect("within the limit");
+        let mut sealed = seal_with(finish, key, &iv, &random.bytes(length)).expect("within the limit");
         for (runs, threads) in RUNS.iter().flat_map(|&runs| THREADS.map(|threads| (runs, threads))) {
-            assert_eq!(check_in_runs(key, &sealed, runs, threads), Ok(()));
+            assert_eq!(check_in_runs_with(finish, key, &sealed, runs, threads), Ok(()));
         }
         let at = random.below(sealed.len());
         sealed[at] ^= 1 << random.below(8);
         for runs in RUNS {
-            assert_eq!(check_in_runs(key, &sealed, runs, 2), Err(Refusal::TagDiffers));
+            assert_eq!(check_in_runs_with(finish, key, &sealed, runs, 2), Err(Refusal::TagDiffers));
+            assert_eq!(check_in_runs_with(other(finish), key, &sealed, runs, 2), Err(Refusal::Length));
         }
     }
     for length in (0..=100).chain(64_000..=64_060) {
         let sealed = random.bytes(length);
-        let opened = open(key, &sealed).map(|_| ());
-        assert_eq!(check_in_runs(key, &sealed, 3, 2), opened, "{length} bytes");
+        let opened = open_with(finish, key, &sealed).map(|_| ());
+        assert_eq!(check_in_runs_with(finish, key, &sealed, 3, 2), opened, "{length} bytes");
     }
 }
 
 /// Every run is refused, and so is the list; a length that no list has comes before that.
 #[test]
 fn a_mask_of_nothing_is_refused_in_runs_too() {
-    for key in pairs::NO_KEYS {
+    for (key, finish) in pairs::NO_KEYS.into_iter().flat_map(|key| FINISHES.map(|finish| (key, finish))) {
         let (key, iv) = pairs::replaced(key);
-        refused_under(&Key::from_slice(&key).expect("a key"), &Iv::from(iv));
+        refused_under(finish, &Key::from_slice(&key).expect("a key"), &Iv::from(iv));
     }
 }
 
-fn refused_under(key: &Key, iv: &Iv) {
+fn refused_under(finish: Finish, key: &Key, iv: &Iv) {
     for (runs, threads) in RUNS.iter().flat_map(|&runs| THREADS.map(|threads| (runs, threads))) {
         for blocks in [1, 2, 9, 4_000] {
-            let sealed = [iv.as_ref(), &vec![7; 16 * (blocks + 1)]].concat();
-            assert_eq!(seal_in_runs(key, iv, &sealed[..16 * blocks - 1], runs, threads), Err(Refusal::ZeroMask));
-            assert_eq!(check_in_runs(key, &sealed, runs, threads), Err(Refusal::ZeroMask));
+            let sealed = [iv.as_ref(), &vec![7; 16 * (blocks - 1) + around(finish)]].concat();
+            let message = &sealed[..16 * blocks - 1];
+            assert_eq!(seal_in_runs_with(finish, key, iv, message, runs, threads), Err(Refusal::ZeroMask));
+            assert_eq!(check_in_runs_with(finish, key, &sealed, runs, threads), Err(Refusal::ZeroMask));
         }
-        assert_eq!(seal_in_runs(key, iv, &[0; 64_000], runs, threads), Err(Refusal::Length));
-        assert_eq!(check_in_runs(key, iv.as_ref(), runs, threads), Err(Refusal::Length));
+        assert_eq!(seal_in_runs_with(finish, key, iv, &[0; 64_000], runs, threads), Err(Refusal::Length));
+        assert_eq!(check_in_runs_with(finish, key, iv.as_ref(), runs, threads), Err(Refusal::Length));
     }
 }
 

@@ -25,7 +25,7 @@ fn a_runs_first_mask_jumped_back_by_its_first_block() {
     let mut random = Random::new(53);
     for first in 0..4_000 {
         let ((key, iv), block) = (pairs::sealing(&mut random), random.block());
-        let Mode { cipher, start_mask } = Mode::<Fips197>::new(&key, &iv);
+        let Mode { cipher, start_mask, .. } = Mode::<Fips197>::new(&key, &iv);
         let (key, iv) = (Key::from_slice(&key).expect("a key"), Iv::from(iv));
         let (ciphertext, record) = seal_run(&key, &iv, first, Kind::Middle, &block).expect("one block within the limit");
         must_lead_back(cipher.first_half_back(middletext(&record)) ^ number(&block), first, start_mask);
@@ -39,7 +39,7 @@ fn the_mask_of_closing_jumped_back_by_the_count() {
     let mut random = Random::new(54);
     for count in 1..=4_000 {
         let ((key, iv), preauthenticator) = (pairs::sealing(&mut random), random.block());
-        let Mode { cipher, start_mask } = Mode::<Fips197>::new(&key, &iv);
+        let Mode { cipher, start_mask, .. } = Mode::<Fips197>::new(&key, &iv);
         let record = RunRecord { first: 0, count, preauthenticator };
         let key = Key::from_slice(&key).expect("a key");
         let tag = close(&key, &Iv::from(iv), &record).expect("the record of a whole list");

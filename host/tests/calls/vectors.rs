@@ -1,14 +1,17 @@
-//! The published vectors: of FIPS 197, of the mode's paper, and the examples of document 01. The records of vectors/make-mode-vectors.
+//! The published vectors: of FIPS 197 and FIPS 180-4, of the mode's paper with both finishes, and the examples of document 01. The records of
+//! vectors/make-mode-vectors.
 
 use std::fs;
 use std::path::Path;
 
-use balzenoh::{close, hex, jump, open, seal, seal_run, Iv, Key, Kind, Refusal};
+use balzenoh::{close, close_with, hex, jump, open, open_with, seal_run, seal_with, test_with, AnyTag, Iv, Key, Kind, Refusal};
 
 use crate::support::aesni::{self, AesNi};
 use crate::support::cipher::Cipher;
+use crate::support::finish::{Finish, FINISHES};
 use crate::support::fips197::Fips197;
 use crate::support::mode::{divided_by_x, divided_by_x_power, padded, times_x, Mode};
+use crate::support::sha1::sha1;
 
 const KEY: &str = "000102030405060708090A0B0C0D0E0F";
 const LONG_KEY: &str = "000102030405060708090A0B0C0D0E0F101112131415161718191A1B1C1D1E1F";
@@ -74,25 +77,28 @@ fn paper_vectors<C: Cipher>() {
         let step = mode.forward(text, mask);
         assert_eq!(mode.backward(step.other, mask).other, text);
         preauthenticator = times_x(preauthenticator) ^ step.middletext;
-        let tag = || mode.cipher.encrypt(preauthenticator ^ times_x(mask)) ^ preauthenticator;
-        let seen = || [mask, step.middletext, preauthenticator, step.other, tag()].map(digits);
+        let seen = || [mask, step.middletext, preauthenticator, step.other].map(digits);
+        let tags = || FINISHES.map(|finish| hex::encode(&mode.tag_after(finish, preauthenticator, times_x(mask))));
         match number {
-            1 => assert_eq!(seen(), BLOCK_1),
-            2 => assert_eq!(seen()[..4], BLOCK_2),
-            1_000_000 => assert_eq!(seen(), BLOCK_1_000_000),
+            1 => assert_eq!((seen(), tags()), (BLOCK_1.map(String::from), TAGS_1.map(String::from))),
+            2 => assert_eq!(seen(), BLOCK_2),
+            1_000_000 => assert_eq!((seen(), tags()), (BLOCK_1_000_000.map(String::from), TAGS_1_000_000.map(String::from))),
             _ => {}
         }
         (mask, text) = (times_x(mask), step.other);
     }
 }
 
-/// Mask, middletext, pre-authenticator, ciphertext block, and the tag of a list that ends here.
-const BLOCK_1: [&str; 5] = [
+/// AUTH-AES and AUTH-SHA-1 of lists of one block and of 1,000,000.
+const TAGS_1: [&str; 2] = ["CBBD199D075F7220957FD8205A233B9F", "ECFA375F615DB07834F50C7B9C3B08A9C9D3F12F"];
+const TAGS_1_000_000: [&str; 2] = ["9D6478D55514E83763C369067E8B82D0", "29520E37A0D635C41694F30AA9C09FE5AF525D2B"];
+
+/// Mask, middletext, pre-authenticator and ciphertext block.
+const BLOCK_1: [&str; 4] = [
     "FDED29920913A3DA8C9ECA2F0FD434AA",
     "C31FDB743AA199CB78AA156AED162EB9",
     "C31FDB743AA199CB78AA156AED162EB9",
     "030F28E63B8A9C570D7FEF31940226F4",
-    "CBBD199D075F7220957FD8205A233B9F",
 ];
 const BLOCK_2: [&str; 4] = [
     "FBDA5324122747B5193D945E1FA869D3",
@@ -100,16 +106,30 @@ const BLOCK_2: [&str; 4] = [
     "663A59D5F6E4C59D291C40AECFE0CE28",
     "8C501ED50FBBECE46655493BF9AD5229",
 ];
-const BLOCK_1_000_000: [&str; 5] = [
+const BLOCK_1_000_000: [&str; 4] = [
     "8F3461728ECD3A7B3D3CC89808967071",
     "0DF19348FE1FD9EFEC91D9843B13566A",
     "D72D708155DB739339471E4D1EAB6D85",
     "F347A18A64E419D33759AD819D5CD8B4",
-    "9D6478D55514E83763C369067E8B82D0",
 ];
 
 /// The mask after the last block.
 const MASK_1_000_001: &str = "1E68C2E51D9A74F67A799130112CE065";
+
+/// FIPS 180-4's examples of one block and of two, and the empty text.
+const DIGESTS: [(&[u8], &str); 3] = [
+    (b"", "DA39A3EE5E6B4B0D3255BFEF95601890AFD80709"),
+    (b"abc", "A9993E364706816ABA3E25717850C26C9CD0D89D"),
+    (b"abcdbcdecdefdefgefghfghighijhijkijkljklmklmnlmnomnopnopq", "84983E441C3BD26EBAAE4AA1F95129E5E54670F1"),
+];
+
+#[test]
+fn reference_and_library_meet_the_examples_of_sha1() {
+    for (text, digest) in DIGESTS {
+        assert_eq!(hex::encode(&sha1(text)), digest);
+        assert_eq!(balzenoh::sha1(text).map(|bytes| hex::encode(&bytes)).as_deref(), Ok(digest));
+    }
+}
 
 #[test]
 fn the_reference_meets_the_published_vectors() {
@@ -135,7 +155,7 @@ fn the_library_meets_the_papers_vectors() {
     assert_eq!(hex::encode(&record.preauthenticator), BLOCK_1[2]);
     assert_eq!(hex::encode(&c1), BLOCK_1[3]);
     let tag = close(&key, &iv, &record).expect("a whole record");
-    assert_eq!(hex::encode(tag.as_bytes()), BLOCK_1[4]);
+    assert_eq!(hex::encode(tag.as_bytes()), TAGS_1[0]);
     // The second block is the first one's ciphertext.
     let (c2, right) = seal_run(&key, &iv, 1, Kind::Middle, &c1).expect("one block");
     assert_eq!(hex::encode(&right.preauthenticator), BLOCK_2[1]);
@@ -147,23 +167,45 @@ fn the_library_meets_the_papers_vectors() {
     assert_eq!(open(&key, &sealed), Err(Refusal::Padding));
 }
 
-/// Under keys of 16 and of 32 bytes. A line has key, IV, message and sealed record.
+/// The same block by each finish: only the tag differs.
+#[test]
+fn the_library_meets_the_papers_tags() {
+    let (key, iv) = (Key::from(block(KEY)), Iv::from(block(IV)));
+    let (c1, record) = seal_run(&key, &iv, 0, Kind::Middle, &block(M1)).expect("one block");
+    for (finish, expected) in FINISHES.into_iter().zip(TAGS_1) {
+        let tag = close_with(finish, &key, &iv, &record).expect("a whole record");
+        assert_eq!(hex::encode(tag.as_bytes()), expected);
+        assert_eq!(test_with(finish, &key, &iv, &record, &expected.parse::<AnyTag>().expect("a tag")), Ok(()));
+        let sealed = [&iv.as_bytes()[..], &c1, tag.as_bytes()].concat();
+        assert_eq!(open_with(finish, &key, &sealed), Err(Refusal::Padding));
+    }
+}
+
+/// With each finish, under keys of 16 and of 32 bytes.
 #[test]
 fn the_program_in_python_seals_the_same_records() {
-    for (name, key_length) in [("sealed.txt", 16), ("sealed256.txt", 32)] {
+    let files = [
+        ("sealed.txt", Finish::Cipher, [128, 0]),
+        ("sealed256.txt", Finish::Cipher, [0, 128]),
+        ("sealed-sha1.txt", Finish::Sha1, [32, 32]),
+    ];
+    for (name, finish, expected) in files {
         let path = Path::new(env!("CARGO_MANIFEST_DIR")).join("../crates/cases/data").join(name);
         let lines = fs::read_to_string(path).expect("sealed records");
-        assert_eq!(lines.lines().count(), 128);
-        for line in lines.lines() {
-            let fields: Vec<_> = line.split(' ').map(bytes).collect();
-            let [key, iv, message, record] = &fields[..] else { panic!("{name}: {line}") };
-            let iv = iv[..].try_into().expect("16 bytes");
-            assert_eq!(key.len(), key_length);
-            assert_eq!(&Mode::<Fips197>::new(key, &iv).seal_blocks(&iv, &padded(message)), record);
-            let key = Key::from_slice(key).expect("a key");
-            assert_eq!(seal(&key, &Iv::from(iv), message).as_ref(), Ok(record));
-        }
+        let lengths: Vec<_> = lines.lines().map(|line| same_record(finish, line)).collect();
+        assert_eq!([16, 32].map(|length| lengths.iter().filter(|&&other| other == length).count()), expected, "{name}");
     }
+}
+
+/// Seals what a line has: key, IV, message and sealed record. Gives the key's length.
+fn same_record(finish: Finish, line: &str) -> usize {
+    let fields: Vec<_> = line.split(' ').map(bytes).collect();
+    let [key, iv, message, record] = &fields[..] else { panic!("{line}") };
+    let iv = iv[..].try_into().expect("16 bytes");
+    assert_eq!(&Mode::<Fips197>::new(key, &iv).seal_blocks(finish, &iv, &padded(message)), record);
+    let typed = Key::from_slice(key).expect("a key");
+    assert_eq!(seal_with(finish, &typed, &Iv::from(iv), message).as_ref(), Ok(record));
+    key.len()
 }
 
 /// Cards (a) to (d), and ticket P1's example.

@@ -5,6 +5,7 @@ use balzenoh::hex;
 
 use crate::support::bench::Bench;
 use crate::support::call::Call;
+use crate::support::finish::FINISHES;
 use crate::support::fips197::Fips197;
 use crate::support::lists::{self, LIMIT};
 use crate::support::mode::{divided_by_x, number, times_x};
@@ -185,9 +186,11 @@ fn runs_and_tags_in_words() {
         assert_eq!(mode.check_run(first, &ciphertext), record);
         // Any record can be taken for that of a whole list.
         let whole = Record { first: 0, count: record.count.max(1), ..record };
-        let (record, tag) = (&whole.written(), &mode.tag(whole));
-        assert_eq!(bench.check(&Call::Close { key, iv, record, room: 16 }).out, tag);
-        assert_eq!(bench.check(&Call::Test { key, iv, record, tag }).number, 0);
+        for finish in FINISHES {
+            let (record, tag) = (&whole.written(), &mode.tag(finish, whole));
+            assert_eq!(bench.check(&Call::Close { finish, key, iv, record, room: tag.len() }).out, *tag);
+            assert_eq!(bench.check(&Call::Test { finish, key, iv, record, tag }).number, 0);
+        }
     }
     bench.finish();
 }

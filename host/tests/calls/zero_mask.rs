@@ -5,6 +5,7 @@ use crate::support::aesni::{self, AesNi};
 use crate::support::bench::Bench;
 use crate::support::call::Call;
 use crate::support::cipher::Cipher;
+use crate::support::finish::FINISHES;
 use crate::support::fips197::Fips197;
 use crate::support::mode::{iv_of_zero_mask, Mode};
 use crate::support::openssl::{openssl, Way};
@@ -23,7 +24,7 @@ fn every_call_succeeds(bench: &mut Bench, pair: Pair) {
 #[test]
 fn the_key_replaces_a_start_mask_of_zero() {
     let mut bench = Bench::new(plan::REPLACED_MASKS);
-    for (round, length) in (0..plan::REPLACED_MASKS.calls / 12).flat_map(|round| KEY_LENGTHS.map(|length| (round, length))) {
+    for (round, length) in (0..plan::REPLACED_MASKS.calls / 20).flat_map(|round| KEY_LENGTHS.map(|length| (round, length))) {
         let lent = if round < 128 { pairs::one_bit(round as usize) } else { bench.random.block() };
         let (key, iv) = pairs::replaced(&pairs::lending(&mut bench.random, lent, length));
         assert_eq!(Mode::<Fips197>::new(&key, &iv).start_mask.to_be_bytes(), lent);
@@ -36,7 +37,7 @@ fn the_key_replaces_a_start_mask_of_zero() {
 #[test]
 fn the_last_bytes_of_a_long_key_are_not_lent() {
     let mut bench = Bench::new(plan::LAST_BYTES);
-    for round in 0..plan::LAST_BYTES.calls / 6 {
+    for round in 0..plan::LAST_BYTES.calls / 10 {
         let lent = if round < 128 { pairs::one_bit(round as usize) } else { bench.random.block() };
         let key = [lent, [0; 16]].concat();
         let iv = Fips197::new(&key).decrypt(0).to_be_bytes();
@@ -66,7 +67,7 @@ fn the_iv_of_a_mask_of_nothing() {
 #[test]
 fn every_call_with_a_key_refuses_a_mask_of_nothing() {
     let mut bench = Bench::new(plan::NO_MASK);
-    for round in 0..plan::NO_MASK.calls / 8 {
+    for round in 0..plan::NO_MASK.calls / 12 {
         let length = match round {
             0 => 63_999,
             1..100 => round as usize - 1,
@@ -128,7 +129,10 @@ fn next_to_a_mask_of_nothing_lists_are_sealed() {
 
 /// A list that is sealed under a key that lends zeros, with its IV then damaged in one bit: 10, and not 6.
 fn damaged_to_a_mask_of_nothing(bench: &mut Bench, key: &[u8], at: usize) {
-    let SealedList { mut sealed, .. } = SealedList::new(&mut bench.random, pairs::one_bit_from_the_iv(key, at), 50);
-    sealed[..16].copy_from_slice(&pairs::replaced(key).1);
-    bench.refuses(10, &Call::Open { key, sealed: &sealed, room: sealed.len() });
+    let list = SealedList::new(&mut bench.random, pairs::one_bit_from_the_iv(key, at), 50);
+    for finish in FINISHES {
+        let mut sealed = list.sealed(finish).to_vec();
+        sealed[..16].copy_from_slice(&pairs::replaced(key).1);
+        bench.refuses(10, &Call::Open { finish, key, sealed: &sealed, room: sealed.len() });
+    }
 }

@@ -2,6 +2,7 @@
 
 use crate::support::bench::Bench;
 use crate::support::call::Call;
+use crate::support::finish::{around, tag_length, Finish, FINISHES};
 use crate::support::fips197::Fips197;
 use crate::support::mode::Mode;
 use crate::support::pairs;
@@ -16,11 +17,13 @@ fn after_the_rows_above_and_before_those_below() {
             let pair = pairs::of_nothing(&mut bench.random);
             let list = SealedList::new(&mut bench.random, pair, length);
             keys_and_ivs_come_first(&mut bench, &list);
-            lists_come_first(&mut bench, &list);
             runs_come_first(&mut bench, &list);
-            records_and_tags_come_first(&mut bench, &list);
             short_outputs_come_after(&mut bench, &list);
-            wrong_tags_and_ends_come_after(&mut bench, &list);
+            for finish in FINISHES {
+                lists_come_first(&mut bench, finish, &list);
+                records_and_tags_come_first(&mut bench, finish, &list);
+                wrong_tags_and_ends_come_after(&mut bench, finish, &list);
+            }
         }
     }
     bench.finish();
@@ -44,19 +47,19 @@ fn keys_and_ivs_come_first(bench: &mut Bench, list: &SealedList) {
 }
 
 /// Row 3, for lists to seal and to open.
-fn lists_come_first(bench: &mut Bench, list: &SealedList) {
-    let SealedList { key, iv, sealed, .. } = list;
+fn lists_come_first(bench: &mut Bench, finish: Finish, list: &SealedList) {
+    let (SealedList { key, iv, .. }, sealed) = (list, list.sealed(finish));
     let room = sealed.len();
-    bench.refuses(3, &Call::Seal { key, iv, message: &[0; 64_000], room });
-    let longer = [&sealed[..], &[0; 15]].concat();
-    for length in (0..48).chain(room + 1..room + 16) {
-        bench.refuses(3, &Call::Open { key, sealed: &longer[..length], room });
+    bench.refuses(3, &Call::Seal { finish, key, iv, message: &[0; 64_000], room });
+    let longer = [sealed, &[0; 15]].concat();
+    for length in (0..16 + around(finish)).chain(room + 1..room + 16) {
+        bench.refuses(3, &Call::Open { finish, key, sealed: &longer[..length], room });
     }
 }
 
 /// Rows 3 and 4, for runs.
 fn runs_come_first(bench: &mut Bench, list: &SealedList) {
-    let SealedList { key, iv, sealed, .. } = list;
+    let (SealedList { key, iv, .. }, sealed) = (list, list.sealed(Finish::Cipher));
     let (room, record_room) = (sealed.len(), 24);
     for bytes in (1..48).filter(|length| length % 16 != 0).map(|length| &sealed[..length]) {
         bench.refuses(3, &Call::SealRun { key, iv, first: 0, last: false, bytes, room, record_room });
@@ -72,24 +75,25 @@ fn runs_come_first(bench: &mut Bench, list: &SealedList) {
 }
 
 /// Row 24 for records, row 3 for tags, and rows 4 and 9 for the numbers in records.
-fn records_and_tags_come_first(bench: &mut Bench, list: &SealedList) {
-    let (SealedList { key, iv, record: whole, .. }, tag) = (list, list.tag());
+fn records_and_tags_come_first(bench: &mut Bench, finish: Finish, list: &SealedList) {
+    let (SealedList { key, iv, record: whole, .. }, tag) = (list, list.tag(finish));
+    let room = tag.len();
     for length in 0..=40 {
         let bytes = &[whole, tag].concat()[..length];
         if length != 24 {
-            bench.refuses(24, &Call::Close { key, iv, record: bytes, room: 16 });
-            bench.refuses(24, &Call::Test { key, iv, record: bytes, tag });
+            bench.refuses(24, &Call::Close { finish, key, iv, record: bytes, room });
+            bench.refuses(24, &Call::Test { finish, key, iv, record: bytes, tag });
         }
-        if length != 16 {
-            bench.refuses(3, &Call::Test { key, iv, record: whole, tag: bytes });
+        if length != room {
+            bench.refuses(3, &Call::Test { finish, key, iv, record: whole, tag: bytes });
         }
     }
     let beyond = [[0, 4_001], [1, 4_000], [4_000, 1], [u32::MAX, 1], [u32::MAX, u32::MAX]].map(|numbers| (4, numbers));
     let parts = [[0, 0], [1, 1], [1, 3_999], [3_999, 1], [4_000, 0]].map(|numbers| (9, numbers));
     for (number, numbers) in beyond.into_iter().chain(parts) {
         let record = &record(numbers, &whole[8..]);
-        bench.refuses(number, &Call::Close { key, iv, record, room: 16 });
-        bench.refuses(number, &Call::Test { key, iv, record, tag });
+        bench.refuses(number, &Call::Close { finish, key, iv, record, room });
+        bench.refuses(number, &Call::Test { finish, key, iv, record, tag });
     }
 }
 
@@ -108,15 +112,15 @@ fn short_outputs_come_after(bench: &mut Bench, list: &SealedList) {
 }
 
 /// Rows 6 and 7.
-fn wrong_tags_and_ends_come_after(bench: &mut Bench, list: &SealedList) {
-    let SealedList { key, iv, record, sealed, .. } = list;
-    let mut damaged = sealed.clone();
-    let at = bench.random.within(16, sealed.len() - 1);
+fn wrong_tags_and_ends_come_after(bench: &mut Bench, finish: Finish, list: &SealedList) {
+    let SealedList { key, iv, record, .. } = list;
+    let mut damaged = list.sealed(finish).to_vec();
+    let at = bench.random.within(16, damaged.len() - 1);
     damaged[at] ^= 1 << bench.random.below(8);
-    let unpadded = Mode::<Fips197>::new(key, iv).seal_blocks(iv, &[0x55; 32]);
+    let unpadded = Mode::<Fips197>::new(key, iv).seal_blocks(finish, iv, &[0x55; 32]);
     for sealed in [&damaged, &unpadded] {
-        bench.refuses(10, &Call::Open { key, sealed, room: sealed.len() });
+        bench.refuses(10, &Call::Open { finish, key, sealed, room: sealed.len() });
     }
-    let tag = &bench.random.block();
-    bench.refuses(10, &Call::Test { key, iv, record, tag });
+    let tag = &bench.random.bytes(tag_length(finish));
+    bench.refuses(10, &Call::Test { finish, key, iv, record, tag });
 }

@@ -3,6 +3,7 @@
 use balzenoh::Refusal;
 
 use crate::program::{digits, Folder};
+use crate::support::finish::Finish;
 use crate::support::fips197::Fips197;
 use crate::support::mode::{padded, Mode};
 use crate::{IV, KEY, LONG_KEY};
@@ -12,7 +13,7 @@ const LIST: &[u8] = b"parcel 4711 -> cage 12";
 /// The list as the mode seals it under this key.
 fn sealed(key: &[u8]) -> Vec<u8> {
     let iv = digits(IV).try_into().expect("16 bytes");
-    Mode::<Fips197>::new(key, &iv).seal_blocks(&iv, &padded(LIST))
+    Mode::<Fips197>::new(key, &iv).seal_blocks(Finish::Cipher, &iv, &padded(LIST))
 }
 
 #[test]

@@ -20,10 +20,12 @@ mod zero_key;
 #[path = "../support"]
 mod support {
     pub mod cipher;
+    pub mod finish;
     pub mod fips197;
     pub mod mode;
     pub mod pairs;
     pub mod random;
+    pub mod sha1;
 }
 
 const KEY: &str = "000102030405060708090A0B0C0D0E0F";

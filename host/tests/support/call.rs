@@ -1,21 +1,39 @@
 //! A call of the library as a value, and its whole answer.
 
-/// What is handed in. A `room` is the length of a lent output, a `record_room` that of an output for a record.
+use super::finish::Finish;
+
+/// What is handed in. A call with a `finish` is one of two functions. A `room` is the length of a lent output, a `record_room` that of an output for a record.
 #[derive(Clone, Debug)]
 pub enum Call<'a> {
-    Seal { key: &'a [u8], iv: &'a [u8], message: &'a [u8], room: usize },
-    Open { key: &'a [u8], sealed: &'a [u8], room: usize },
+    Seal { finish: Finish, key: &'a [u8], iv: &'a [u8], message: &'a [u8], room: usize },
+    Open { finish: Finish, key: &'a [u8], sealed: &'a [u8], room: usize },
     SealRun { key: &'a [u8], iv: &'a [u8], first: u32, last: bool, bytes: &'a [u8], room: usize, record_room: usize },
     CheckRun { key: &'a [u8], iv: &'a [u8], first: u32, bytes: &'a [u8], record_room: usize },
     Join { left: &'a [u8], right: &'a [u8], record_room: usize },
     JoinList { records: &'a [u8], record_room: usize },
-    Close { key: &'a [u8], iv: &'a [u8], record: &'a [u8], room: usize },
-    Test { key: &'a [u8], iv: &'a [u8], record: &'a [u8], tag: &'a [u8] },
+    Close { finish: Finish, key: &'a [u8], iv: &'a [u8], record: &'a [u8], room: usize },
+    Test { finish: Finish, key: &'a [u8], iv: &'a [u8], record: &'a [u8], tag: &'a [u8] },
     Jump { mask: &'a [u8], distance: i32, room: usize },
+    Sha1 { text: &'a [u8], room: usize },
 }
 
 /// The functions' names, in the order of `Call::function`.
-pub const FUNCTIONS: [&str; 9] = ["seal", "open", "seal_run", "check_run", "join", "join_list", "close", "test", "jump"];
+pub const FUNCTIONS: [&str; 14] = [
+    "seal",
+    "open",
+    "seal_run",
+    "check_run",
+    "join",
+    "join_list",
+    "close",
+    "test",
+    "jump",
+    "sha1",
+    "seal_sha1",
+    "open_sha1",
+    "close_sha1",
+    "test_sha1",
+];
 
 /// What comes back: the refusal's number or 0, the reported length (0 where none is), and the lent outputs from end to end.
 #[derive(Clone, Debug, PartialEq, Eq)]
@@ -28,23 +46,26 @@ pub struct Answer {
 
 impl<'a> Call<'a> {
     pub fn function(&self) -> usize {
+        let by = |finish: &Finish, cipher, hash| if *finish == Finish::Cipher { cipher } else { hash };
         match self {
-            Call::Seal { .. } => 0,
-            Call::Open { .. } => 1,
+            Call::Seal { finish, .. } => by(finish, 0, 10),
+            Call::Open { finish, .. } => by(finish, 1, 11),
             Call::SealRun { .. } => 2,
             Call::CheckRun { .. } => 3,
             Call::Join { .. } => 4,
             Call::JoinList { .. } => 5,
-            Call::Close { .. } => 6,
-            Call::Test { .. } => 7,
+            Call::Close { finish, .. } => by(finish, 6, 12),
+            Call::Test { finish, .. } => by(finish, 7, 13),
             Call::Jump { .. } => 8,
+            Call::Sha1 { .. } => 9,
         }
     }
 
     /// The lengths of the lent outputs: bytes, record.
     pub fn rooms(&self) -> (usize, usize) {
         match *self {
-            Call::Seal { room, .. } | Call::Open { room, .. } | Call::Close { room, .. } | Call::Jump { room, .. } => (room, 0),
+            Call::Seal { room, .. } | Call::Open { room, .. } | Call::Close { room, .. } => (room, 0),
+            Call::Jump { room, .. } | Call::Sha1 { room, .. } => (room, 0),
             Call::SealRun { room, record_room, .. } => (room, record_room),
             Call::CheckRun { record_room, .. } | Call::Join { record_room, .. } | Call::JoinList { record_room, .. } => {
                 (0, record_room)
@@ -74,9 +95,8 @@ impl<'a> Call<'a> {
     /// The call with outputs of these lengths lent, where it has such.
     pub fn lent(mut self, bytes: usize, record: usize) -> Self {
         match &mut self {
-            Call::Seal { room, .. } | Call::Open { room, .. } | Call::Close { room, .. } | Call::Jump { room, .. } => {
-                *room = bytes
-            }
+            Call::Seal { room, .. } | Call::Open { room, .. } | Call::Close { room, .. } => *room = bytes,
+            Call::Jump { room, .. } | Call::Sha1 { room, .. } => *room = bytes,
             Call::SealRun { room, record_room, .. } => (*room, *record_room) = (bytes, record),
             Call::CheckRun { record_room, .. } | Call::Join { record_room, .. } | Call::JoinList { record_room, .. } => {
                 *record_room = record
@@ -95,8 +115,9 @@ impl<'a> Call<'a> {
             Call::Join { left, right, .. } => [left, right].concat(),
             Call::JoinList { records, .. } => records.to_vec(),
             Call::Close { key, iv, record, .. } => [key, iv, record].concat(),
-            Call::Test { key, iv, record, tag } => [key, iv, record, tag].concat(),
+            Call::Test { key, iv, record, tag, .. } => [key, iv, record, tag].concat(),
             Call::Jump { mask, .. } => mask.to_vec(),
+            Call::Sha1 { text, .. } => text.to_vec(),
         }
     }
 }

@@ -24,15 +24,16 @@ pub fn answer(call: &Call, random: &mut Random) -> Answer {
 fn make(call: &Call, out: &mut [u8], run: &mut [u8]) -> Result<usize, Refusal> {
     let no_length = |()| 0;
     match *call {
-        Call::Seal { key, iv, message, .. } => raw::seal(key, iv, message, out),
-        Call::Open { key, sealed, .. } => raw::open(key, sealed, out),
+        Call::Seal { finish, key, iv, message, .. } => raw::seal_with(finish, key, iv, message, out),
+        Call::Open { finish, key, sealed, .. } => raw::open_with(finish, key, sealed, out),
         Call::SealRun { key, iv, first, last, bytes, .. } => raw::seal_run(key, iv, first, last, bytes, out, run),
         Call::CheckRun { key, iv, first, bytes, .. } => raw::check_run(key, iv, first, bytes, run).map(no_length),
         Call::Join { left, right, .. } => raw::join(left, right, run).map(no_length),
         Call::JoinList { records, .. } => raw::join_list(records, run).map(no_length),
-        Call::Close { key, iv, record, .. } => raw::close(key, iv, record, out).map(no_length),
-        Call::Test { key, iv, record, tag } => raw::test(key, iv, record, tag).map(no_length),
+        Call::Close { finish, key, iv, record, .. } => raw::close_with(finish, key, iv, record, out).map(no_length),
+        Call::Test { finish, key, iv, record, tag } => raw::test_with(finish, key, iv, record, tag).map(no_length),
         Call::Jump { mask, distance, .. } => raw::jump(mask, distance, out).map(no_length),
+        Call::Sha1 { text, .. } => raw::sha1(text, out).map(no_length),
     }
 }
 

@@ -1,6 +1,9 @@
-//! Cipher-State mode as its paper has it, over any cipher in two halves. What a long key lends to the start mask is ticket P8's rule.
+//! Cipher-State mode as its paper has it, over any cipher in two halves, with both finishes. What a long key lends to the start mask is
+//! ticket P8's rule, and that the hash finish takes all of it.
 
 use super::cipher::Cipher;
+use super::finish::Finish;
+use super::sha1::sha1;
 
 /// Multiplies by the polynomial's variable: a shift to the left, and 87 for the bit that falls out.
 pub fn times_x(block: u128) -> u128 {
@@ -29,6 +32,7 @@ pub fn divided_by_x_power(block: u128, power: u32) -> u128 {
 
 /// The mode under one key and IV.
 pub struct Mode<C> {
+    key: Vec<u8>,
     pub cipher: C,
     pub start_mask: u128,
 }
@@ -43,7 +47,7 @@ impl<C: Cipher> Mode<C> {
     pub fn new(key: &[u8], iv: &[u8; 16]) -> Self {
         let (cipher, lent) = (C::new(key), lent(key));
         let mask = cipher.encrypt(u128::from_be_bytes(*iv) ^ lent) ^ lent;
-        Self { cipher, start_mask: if mask == 0 { lent } else { mask } }
+        Self { key: key.to_vec(), cipher, start_mask: if mask == 0 { lent } else { mask } }
     }
 
     /// From a block of plaintext: middletext and ciphertext.
@@ -73,24 +77,32 @@ impl<C: Cipher> Mode<C> {
         (other, preauthenticator)
     }
 
+    /// The tag, from the mask after the last block: by the cipher, or the hash of key, pre-authenticator and mask.
+    pub fn tag_after(&self, finish: Finish, preauthenticator: u128, mask_after: u128) -> Vec<u8> {
+        let block = |number: u128| number.to_be_bytes().to_vec();
+        match finish {
+            Finish::Cipher => block(self.cipher.encrypt(preauthenticator ^ mask_after) ^ preauthenticator),
+            Finish::Sha1 => sha1(&[self.key.clone(), block(preauthenticator), block(mask_after)].concat()).to_vec(),
+        }
+    }
+
     /// The tag of a list of that many blocks.
-    pub fn tag(&self, blocks: u32, preauthenticator: u128) -> u128 {
-        let mask_after = times_x_power(self.start_mask, blocks);
-        self.cipher.encrypt(preauthenticator ^ mask_after) ^ preauthenticator
+    pub fn tag(&self, finish: Finish, blocks: u32, preauthenticator: u128) -> Vec<u8> {
+        self.tag_after(finish, preauthenticator, times_x_power(self.start_mask, blocks))
     }
 
     /// IV, ciphertext and tag of whole blocks, to which no padding is added.
-    pub fn seal_blocks(&self, iv: &[u8], blocks: &[u8]) -> Vec<u8> {
+    pub fn seal_blocks(&self, finish: Finish, iv: &[u8], blocks: &[u8]) -> Vec<u8> {
         let (ciphertext, preauthenticator) = self.run(0, blocks, Self::forward);
-        let tag = self.tag((blocks.len() / 16) as u32, preauthenticator);
-        [iv, &ciphertext, &tag.to_be_bytes()].concat()
+        let tag = self.tag(finish, (blocks.len() / 16) as u32, preauthenticator);
+        [iv, &ciphertext, &tag].concat()
     }
 
     /// IV, ciphertext and the right tag of any ciphertext.
-    pub fn vouch_for(&self, iv: &[u8], ciphertext: &[u8]) -> Vec<u8> {
+    pub fn vouch_for(&self, finish: Finish, iv: &[u8], ciphertext: &[u8]) -> Vec<u8> {
         let (_, preauthenticator) = self.run(0, ciphertext, Self::backward);
-        let tag = self.tag((ciphertext.len() / 16) as u32, preauthenticator);
-        [iv, ciphertext, &tag.to_be_bytes()].concat()
+        let tag = self.tag(finish, (ciphertext.len() / 16) as u32, preauthenticator);
+        [iv, ciphertext, &tag].concat()
     }
 }
 

@@ -11,42 +11,45 @@ const fn topic(name: &'static str, seed: u64, calls: u64) -> Topic {
     Topic { name, seed, calls }
 }
 
-pub const SEALING: Topic = topic("sealing, every length and room", 1, 25_000);
-pub const SEALING_EDGES: Topic = topic("sealing at the edges", 2, 6_800);
-pub const OPENING: Topic = topic("opening, every length and room", 3, 25_000);
-pub const OPENING_EDGES: Topic = topic("opening at the edges", 4, 1_900);
-pub const OPENING_ENDS: Topic = topic("opening, ends of lists", 5, 40_000);
+pub const SEALING: Topic = topic("sealing, every length and room", 1, 51_000);
+pub const SEALING_EDGES: Topic = topic("sealing at the edges", 2, 24_000);
+pub const OPENING: Topic = topic("opening, every length and room", 3, 51_000);
+pub const OPENING_EDGES: Topic = topic("opening at the edges", 4, 4_400);
+pub const OPENING_ENDS: Topic = topic("opening, ends of lists", 5, 60_000);
 pub const RUNS_SEALED: Topic = topic("sealing runs", 6, 51_000);
 pub const RUNS_CHECKED: Topic = topic("checking runs", 7, 25_000);
 pub const RUN_EDGES: Topic = topic("runs at the edges", 8, 26_000);
 pub const JOINS: Topic = topic("joining records", 9, 250_000);
-pub const CLOSINGS: Topic = topic("closing and testing records", 10, 120_000);
+pub const CLOSINGS: Topic = topic("closing and testing records", 10, 200_000);
 pub const JUMPS: Topic = topic("jumping masks", 11, 210_000);
-pub const CUTS_SEALED: Topic = topic("cuts over messages", 12, 300_000);
-pub const CUTS_CHECKED: Topic = topic("cuts over sealed records", 13, 300_000);
-pub const DAMAGE: Topic = topic("damaged records", 14, 20_000);
-pub const REPLACED_MASKS: Topic = topic("start masks replaced by the key", 15, 12_000);
+pub const CUTS_SEALED: Topic = topic("cuts over messages", 12, 330_000);
+pub const CUTS_CHECKED: Topic = topic("cuts over sealed records", 13, 310_000);
+pub const DAMAGE: Topic = topic("damaged records", 14, 60_000);
+pub const REPLACED_MASKS: Topic = topic("start masks replaced by the key", 15, 20_000);
 pub const EQUAL_COUNTS: Topic = topic("joining runs of equal counts", 16, 190_000);
 pub const CHANGING_COUNTS: Topic = topic("joining runs of changing counts", 17, 180_000);
 pub const EVERY_COUNT: Topic = topic("joining by every count", 18, 70_000);
 pub const REFUSED_LISTS: Topic = topic("lists refused within", 19, 20_000);
-pub const NO_MASK: Topic = topic("mask of nothing, every call", 20, 16_000);
-pub const NO_MASK_ROWS: Topic = topic("mask of nothing, rows above and below", 21, 77_000);
+pub const NO_MASK: Topic = topic("mask of nothing, every call", 20, 24_000);
+pub const NO_MASK_ROWS: Topic = topic("mask of nothing, rows above and below", 21, 120_000);
 pub const NO_MASK_EMPTY: Topic = topic("mask of nothing, empty runs", 22, 24_000);
-pub const NEAR_NO_MASK: Topic = topic("next to a mask of nothing", 23, 7_000);
+pub const NEAR_NO_MASK: Topic = topic("next to a mask of nothing", 23, 14_000);
 pub const WORDS_JUMPED: Topic = topic("jumping in 64-bit words", 24, 50_000);
 pub const WORDS_JOINED: Topic = topic("joining in 64-bit words", 25, 100_000);
-pub const WORDS_SEALED: Topic = topic("runs and tags in 64-bit words", 26, 10_000);
-pub const GROUPS: Topic = topic("every number of blocks", 27, 3_900);
-pub const GROUPS_DAMAGED: Topic = topic("every block damaged", 28, 6_200);
-pub const LAST_BYTES: Topic = topic("the last bytes of long keys", 29, 3_000);
-pub const WRONG_KEYS: Topic = topic("keys of wrong lengths", 30, 28_000);
-pub const EXTENDED_KEYS: Topic = topic("keys with another before them", 31, 6_000);
+pub const WORDS_SEALED: Topic = topic("runs and tags in 64-bit words", 26, 15_000);
+pub const GROUPS: Topic = topic("every number of blocks", 27, 6_100);
+pub const GROUPS_DAMAGED: Topic = topic("every block damaged", 28, 13_000);
+pub const LAST_BYTES: Topic = topic("the last bytes of long keys", 29, 5_000);
+pub const WRONG_KEYS: Topic = topic("keys of wrong lengths", 30, 47_000);
+pub const EXTENDED_KEYS: Topic = topic("keys with another before them", 31, 10_000);
+pub const DIGESTS: Topic = topic("SHA-1, every length and room", 32, 25_000);
+pub const OTHER_FINISH: Topic = topic("what the other finish made", 33, 3_600);
+pub const TAG_BITS: Topic = topic("every bit of a tag", 34, 5_700);
 
 /// How many cuts each of their two topics has.
 pub const CUTS: usize = 12_000;
 
-const ALL: [Topic; 31] = [
+const ALL: [Topic; 34] = [
     SEALING,
     SEALING_EDGES,
     OPENING,
@@ -78,6 +81,9 @@ const ALL: [Topic; 31] = [
     LAST_BYTES,
     WRONG_KEYS,
     EXTENDED_KEYS,
+    DIGESTS,
+    OTHER_FINISH,
+    TAG_BITS,
 ];
 
 /// Each topic's test sees that it made its number of calls.

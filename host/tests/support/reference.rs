@@ -2,10 +2,13 @@
 
 use super::call::{Answer, Call};
 use super::cipher::Cipher;
+use super::finish::{around, ciphertext_length, tag_length, Finish};
 use super::mode::{divided_by_x_power, number, padded, times_x_power, unpadded, Mode};
+use super::sha1::sha1;
 
 const LIMIT: u64 = 4_000;
 const LONGEST_MESSAGE: usize = 63_999;
+const LONGEST_TEXT: usize = 64_032;
 
 /// What a call gives when it is not refused.
 #[derive(Default)]
@@ -33,8 +36,8 @@ pub fn answer<C: Cipher>(call: &Call) -> Answer {
 
 fn outcome<C: Cipher>(call: &Call) -> Outcome {
     match *call {
-        Call::Seal { key, iv, message, room } => seal::<C>(key, iv, message, room),
-        Call::Open { key, sealed, room } => open::<C>(key, sealed, room),
+        Call::Seal { finish, key, iv, message, room } => seal::<C>(finish, Under { key, iv }, message, room),
+        Call::Open { finish, key, sealed, room } => open::<C>(finish, key, sealed, room),
         Call::SealRun { key, iv, first, last, bytes, room, record_room } => {
             let under = Under { key, iv };
             seal_run::<C>(under, first, last, bytes, (room, record_room))
@@ -42,9 +45,10 @@ fn outcome<C: Cipher>(call: &Call) -> Outcome {
         Call::CheckRun { key, iv, first, bytes, record_room } => check_run::<C>(Under { key, iv }, first, bytes, record_room),
         Call::Join { left, right, record_room } => join(left, right, record_room),
         Call::JoinList { records, record_room } => join_list(records, record_room),
-        Call::Close { key, iv, record, room } => close::<C>(Under { key, iv }, record, room),
-        Call::Test { key, iv, record, tag } => test::<C>(Under { key, iv }, record, tag),
+        Call::Close { finish, key, iv, record, room } => close::<C>(finish, Under { key, iv }, record, room),
+        Call::Test { finish, key, iv, record, tag } => test::<C>(finish, Under { key, iv }, record, tag),
         Call::Jump { mask, distance, room } => jump(mask, distance, room),
+        Call::Sha1 { text, room } => digest(text, room),
     }
 }
 
@@ -113,26 +117,25 @@ impl Record {
     }
 }
 
-fn seal<C: Cipher>(key: &[u8], iv: &[u8], message: &[u8], room: usize) -> Outcome {
-    let under = Under { key, iv };
+fn seal<C: Cipher>(finish: Finish, under: Under, message: &[u8], room: usize) -> Outcome {
     rows(&under.rows())?;
     rows(&[(3, message.len() > LONGEST_MESSAGE)])?;
     let mode = under.mode::<C>()?;
     let blocks = padded(message);
-    rows(&[(5, room < blocks.len() + 32)])?;
-    let out = mode.seal_blocks(iv, &blocks);
+    rows(&[(5, room < blocks.len() + around(finish))])?;
+    let out = mode.seal_blocks(finish, under.iv, &blocks);
     Ok(Given { length: out.len(), out, ..Given::default() })
 }
 
-fn open<C: Cipher>(key: &[u8], sealed: &[u8], room: usize) -> Outcome {
+fn open<C: Cipher>(finish: Finish, key: &[u8], sealed: &[u8], room: usize) -> Outcome {
     rows(&[(1, is_no_key(key))])?;
-    rows(&[(3, sealed.len() < 48 || sealed.len() > 64_032 || !sealed.len().is_multiple_of(16))])?;
+    let length = ciphertext_length(finish, sealed.len()).ok_or(3)?;
     let (iv, rest) = sealed.split_at(16);
-    let (ciphertext, tag) = rest.split_at(rest.len() - 16);
+    let (ciphertext, tag) = rest.split_at(length);
     let mode = Under { key, iv }.mode::<C>()?;
     rows(&[(5, room < ciphertext.len())])?;
     let (blocks, preauthenticator) = mode.run(0, ciphertext, Mode::backward);
-    rows(&[(6, mode.tag((ciphertext.len() / 16) as u32, preauthenticator) != number(tag))])?;
+    rows(&[(6, mode.tag(finish, (length / 16) as u32, preauthenticator) != tag)])?;
     let message = unpadded(&blocks).ok_or(7)?;
     Ok(Given { length: message.len(), out: message.to_vec(), ..Given::default() })
 }
@@ -186,23 +189,22 @@ fn record_given(record: Record) -> Outcome {
     Ok(Given { record: record.written(), ..Given::default() })
 }
 
-fn close<C: Cipher>(under: Under, record: &[u8], room: usize) -> Outcome {
+fn close<C: Cipher>(finish: Finish, under: Under, record: &[u8], room: usize) -> Outcome {
     let record = Record::read(record)?;
     rows(&under.rows())?;
     rows(&whole_rows(record))?;
     let mode = under.mode::<C>()?;
-    rows(&[(5, room < 16)])?;
-    let tag = mode.tag(record.count, record.preauthenticator);
-    Ok(Given { out: tag.to_be_bytes().to_vec(), ..Given::default() })
+    rows(&[(5, room < tag_length(finish))])?;
+    Ok(Given { out: mode.tag(finish, record.count, record.preauthenticator), ..Given::default() })
 }
 
-fn test<C: Cipher>(under: Under, record: &[u8], tag: &[u8]) -> Outcome {
+fn test<C: Cipher>(finish: Finish, under: Under, record: &[u8], tag: &[u8]) -> Outcome {
     let record = Record::read(record)?;
     rows(&under.rows())?;
-    rows(&[(3, tag.len() != 16)])?;
+    rows(&[(3, tag.len() != tag_length(finish))])?;
     rows(&whole_rows(record))?;
     let mode = under.mode::<C>()?;
-    rows(&[(6, mode.tag(record.count, record.preauthenticator) != number(tag))])?;
+    rows(&[(6, mode.tag(finish, record.count, record.preauthenticator) != tag)])?;
     Ok(Given::default())
 }
 
@@ -216,4 +218,9 @@ fn jump(mask: &[u8], distance: i32, room: usize) -> Outcome {
     let steps = if distance < 0 { divided_by_x_power } else { times_x_power };
     let jumped = steps(number(mask), distance.unsigned_abs());
     Ok(Given { out: jumped.to_be_bytes().to_vec(), ..Given::default() })
+}
+
+fn digest(text: &[u8], room: usize) -> Outcome {
+    rows(&[(3, text.len() > LONGEST_TEXT), (5, room < 20)])?;
+    Ok(Given { out: sha1(text).to_vec(), ..Given::default() })
 }

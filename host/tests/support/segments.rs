@@ -3,6 +3,7 @@
 use super::bench::Bench;
 use super::call::Call;
 use super::cipher::Cipher;
+use super::finish::{Finish, FINISHES};
 use super::fips197::Fips197;
 use super::mode::{number, padded, times_x, Mode};
 use super::random::Random;
@@ -27,7 +28,7 @@ pub enum Text {
 pub struct Unbroken {
     middletexts: Vec<u128>,
     pub ciphertext: Vec<u8>,
-    pub tag: [u8; 16],
+    tags: [Vec<u8>; 2],
 }
 
 pub struct Segments {
@@ -167,8 +168,13 @@ impl Unbroken {
             mask = times_x(mask);
         }
         let whole = middletexts.iter().fold(0, |sum, middletext| times_x(sum) ^ middletext);
-        let tag = mode.tag(middletexts.len() as u32, whole).to_be_bytes();
-        Self { middletexts, ciphertext, tag }
+        let tags = FINISHES.map(|finish| mode.tag_after(finish, whole, mask));
+        Self { middletexts, ciphertext, tags }
+    }
+
+    /// The tag by this finish.
+    pub fn tag(&self, finish: Finish) -> &[u8] {
+        &self.tags[finish as usize]
     }
 }
 

@@ -2,7 +2,9 @@
 //! handed the bytes.
 
 use super::cipher::Cipher;
+use super::finish::Finish;
 use super::mode::number;
+use super::sha1::sha1;
 
 /// Sixteen bytes: the first eight are the upper word, most significant byte first.
 #[derive(Clone, Copy, Debug, PartialEq, Eq)]
@@ -84,6 +86,7 @@ impl Record {
 
 /// The mode under one key and IV, in words.
 pub struct WordMode<C> {
+    key: Vec<u8>,
     cipher: C,
     start_mask: Words,
 }
@@ -93,7 +96,7 @@ impl<C: Cipher> WordMode<C> {
         let (cipher, lent, iv) = (C::new(key), Words::read(&key[..16]), Words::read(iv));
         let mask = iv.plus(lent).through(|block| cipher.encrypt(block)).plus(lent);
         let start_mask = if mask.upper | mask.lower == 0 { lent } else { mask };
-        Self { cipher, start_mask }
+        Self { key: key.to_vec(), cipher, start_mask }
     }
 
     /// Whole blocks from block `first` on: the ciphertext, and the record.
@@ -124,9 +127,15 @@ impl<C: Cipher> WordMode<C> {
     }
 
     /// The tag that the record of a whole list is closed into.
-    pub fn tag(&self, record: Record) -> [u8; 16] {
+    pub fn tag(&self, finish: Finish, record: Record) -> Vec<u8> {
         let Record { count, preauthenticator, .. } = record;
         let mask_after = self.start_mask.jumped(count as i32);
-        preauthenticator.plus(mask_after).through(|block| self.cipher.encrypt(block)).plus(preauthenticator).written()
+        match finish {
+            Finish::Cipher => {
+                let encrypted = preauthenticator.plus(mask_after).through(|block| self.cipher.encrypt(block));
+                encrypted.plus(preauthenticator).written().to_vec()
+            }
+            Finish::Sha1 => sha1(&[&self.key[..], &preauthenticator.written(), &mask_after.written()].concat()).to_vec(),
+        }
     }
 }
