@@ -262,7 +262,7 @@ fn every_command_has_its_help() {
     let folder = Folder::new("help");
     let global = String::from_utf8(folder.run(&["--help"]).exits(0).stdout).expect("text");
     assert!(global.contains("REMOVED") && global.contains("EXIT STATUS"));
-    for command in ["seal", "open", "check", "seal-run", "check-run", "join", "close", "test", "jump", "demo"] {
+    for command in ["seal", "open", "check", "seal-run", "check-run", "join", "close", "test", "jump", "sha1", "demo"] {
         assert!(global.contains(&format!("\n  {command} ")));
         let help = folder.run(&[command, "--help"]).exits(0).stdout;
         assert!(help.starts_with(format!("balzenoh {command}").as_bytes()));

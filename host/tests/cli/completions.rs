@@ -28,11 +28,14 @@ fn bash_completes_commands_options_and_files() {
     assert_eq!(offered(&folder, "balzenoh --v"), ["--version"]);
     assert_eq!(offered(&folder, "balzenoh seal --r"), ["--runs"]);
     assert_eq!(offered(&folder, "balzenoh seal-run --l"), ["--last"]);
-    assert_eq!(offered(&folder, "balzenoh open --key @list -"), ["--help", "--key", "--output", "-h", "-o"]);
+    assert_eq!(offered(&folder, "balzenoh open --key @list -"), ["--finish", "--help", "--key", "--output", "-h", "-o"]);
     assert_eq!(offered(&folder, "balzenoh open li"), ["list", "list.sealed"]);
     assert_eq!(offered(&folder, "balzenoh open -o li"), ["list", "list.sealed"]);
     assert_eq!(offered(&folder, "balzenoh seal --runs l"), Vec::<String>::new());
     assert_eq!(offered(&folder, "balzenoh jump --distance -"), Vec::<String>::new());
+    assert_eq!(offered(&folder, "balzenoh close --finish "), ["cipher", "sha1"]);
+    assert_eq!(offered(&folder, "balzenoh seal --finish=s"), ["sha1"]);
+    assert_eq!(offered(&folder, "balzenoh sha1 li"), ["list", "list.sealed"]);
     assert_eq!(offered(&folder, "balzenoh completions "), ["bash", "zsh"]);
     assert_eq!(offered(&folder, "balzenoh help op"), ["open"]);
 }
@@ -61,7 +64,7 @@ fn bash_knows_every_command_of_the_help() {
 fn zsh_takes_the_completions() {
     let folder = Folder::new("zsh");
     let script = folder.run(&["completions", "zsh"]).exits(0).text();
-    assert!(script.starts_with("#compdef balzenoh\n"));
+    assert!(script.starts_with("#compdef balzenoh\n") && script.contains(":FINISH:(cipher sha1)'"));
     if folder.shell("command -v zsh").status != Some(0) {
         eprintln!("left out: there is no zsh");
         return;

@@ -3,6 +3,7 @@
 mod bounds;
 mod commands;
 mod completions;
+mod finish;
 mod inputs;
 mod key_lengths;
 mod left_behind;

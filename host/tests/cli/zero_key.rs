@@ -16,6 +16,7 @@ fn commissioned(name: &str, key: &[u8]) -> Folder {
     folder.write("iv", format!("{}\n", hex::encode(&iv)).as_bytes());
     folder.write("list", b"parcel 4711 -> cage 12");
     folder.write("sealed", &[iv; 4].concat());
+    folder.write("hashed", &[iv; 5].concat()[..68]);
     folder.write("empty", b"");
     folder
 }
@@ -42,6 +43,12 @@ fn every_command_refuses(folder: &Folder) {
         format!("check-run {under} --first 7 sealed --record old.rec"),
         format!("close {under} {RECORD} -o old"),
         format!("test {under} --tag {IV} {RECORD}"),
+        format!("seal {under} --finish sha1 list -o old"),
+        format!("seal {under} --finish sha1 --runs 3 --threads 2 list -o old"),
+        "open --key @key --finish sha1 hashed -o old".to_string(),
+        "check --key @key --finish sha1 hashed".to_string(),
+        format!("close {under} --finish sha1 {RECORD} -o old"),
+        format!("test {under} --finish sha1 --tag {IV}00000000 {RECORD}"),
     ];
     for line in lines {
         for old in line.split(' ').filter(|word| word.starts_with("old")) {
