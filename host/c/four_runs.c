@@ -1,5 +1,5 @@
 /* A list sealed in four runs, out of order, each straight into its place in one buffer. Joined and closed, the runs are the sealed record
-   that balzenoh_seal gives in one piece. */
+   that balzenoh_seal gives in one piece; closed with the hash finish, that of balzenoh_seal_sha1. */
 #include "balzenoh.h"
 
 #include <stdio.h>
@@ -54,7 +54,7 @@ static int join_runs(uint8_t whole[BALZENOH_RUN_RECORD]) {
 /* The IV before the ciphertext, the tag after it. */
 static int lay_out(const uint8_t whole[BALZENOH_RUN_RECORD]) {
     memcpy(sealed, iv, sizeof iv);
-    return balzenoh_close(key, sizeof key, iv, sizeof iv, whole, BALZENOH_RUN_RECORD, sealed + tag_place(), BALZENOH_BLOCK) == 0;
+    return balzenoh_close(key, sizeof key, iv, sizeof iv, whole, BALZENOH_RUN_RECORD, sealed + tag_place(), BALZENOH_TAG) == 0;
 }
 
 static int same_as_in_one_piece(void) {
@@ -62,6 +62,16 @@ static int same_as_in_one_piece(void) {
     size_t length;
     return balzenoh_seal(key, sizeof key, iv, sizeof iv, message, sizeof message, piece, sizeof piece, &length) == 0
         && length == sizeof sealed && memcmp(piece, sealed, sizeof sealed) == 0;
+}
+
+/* The runs and their record do not know the finish: the ciphertext stays, and the tag of 20 bytes comes after it. */
+static int same_with_the_hash_finish(const uint8_t whole[BALZENOH_RUN_RECORD]) {
+    uint8_t hashed[BALZENOH_SEALED_LENGTH_SHA1(MESSAGE)], piece[BALZENOH_SEALED_LENGTH_SHA1(MESSAGE)];
+    size_t length;
+    memcpy(hashed, sealed, tag_place());
+    return balzenoh_close_sha1(key, sizeof key, iv, sizeof iv, whole, BALZENOH_RUN_RECORD, hashed + tag_place(), BALZENOH_TAG_SHA1) == 0
+        && balzenoh_seal_sha1(key, sizeof key, iv, sizeof iv, message, sizeof message, piece, sizeof piece, &length) == 0
+        && length == sizeof hashed && memcmp(piece, hashed, sizeof hashed) == 0;
 }
 
 static int opens_to_the_message(void) {
@@ -89,6 +99,7 @@ int main(void) {
     must(join_runs(whole), "records joined: a pair, then a list of three");
     must(lay_out(whole), "closed, and laid out as IV, ciphertext, tag");
     must(same_as_in_one_piece(), "the same bytes as balzenoh_seal gives");
+    must(same_with_the_hash_finish(whole), "the same record closed with the hash finish: the same bytes as balzenoh_seal_sha1 gives");
     must(opens_to_the_message(), "opened: the message is back");
     sealed[tag_place() - 1] ^= 1;
     must(is_refused_with_zeros(), "one bit flipped: refusal 6, and the output is all zeros");

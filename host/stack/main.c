@@ -11,11 +11,11 @@ static const struct {
 } keys[] = {{{1, 2, 3}, 16}, {{0}, 16}, {{1, 2, 3}, 32}, {{0}, 32}};
 static const uint8_t iv[16] = {4, 5, 6}, *key;
 static size_t key_length;
-static uint8_t message[BALZENOH_LONGEST_MESSAGE], sealed[BALZENOH_LONGEST_SEALED], out[BALZENOH_LONGEST_SEALED];
-static uint8_t records[3][BALZENOH_RUN_RECORD], run[BALZENOH_RUN_RECORD], tag[16], mask[16] = {7, 8, 9};
+static uint8_t message[BALZENOH_LONGEST_MESSAGE], sealed[BALZENOH_LONGEST_SEALED_SHA1], out[BALZENOH_LONGEST_SEALED_SHA1];
+static uint8_t records[3][BALZENOH_RUN_RECORD], run[BALZENOH_RUN_RECORD], tag[BALZENOH_TAG], tag_sha1[BALZENOH_TAG_SHA1], mask[16] = {7, 8, 9};
 static uint8_t answer;
 static size_t length;
-/* The number of blocks: of the list, of the run at its end, of the right record, of the jump. */
+/* The number of blocks: of the list, of the run at its end, of the right record, of the jump; of 16 bytes, less one, of the text for SHA-1. */
 static uint32_t blocks;
 
 /* Calls that are not the measured one give what it works on: the record of blocks `first` to `end`, and the sealed list. */
@@ -27,6 +27,10 @@ static void prepare_sealed(void) {
     answer |= balzenoh_seal(key, key_length, iv, 16, message, 16 * (size_t)blocks - 1, sealed, sizeof sealed, &length);
 }
 
+static void prepare_sealed_sha1(void) {
+    answer |= balzenoh_seal_sha1(key, key_length, iv, 16, message, 16 * (size_t)blocks - 1, sealed, sizeof sealed, &length);
+}
+
 static void prepare_records(void) {
     check_part(0, BALZENOH_LIMIT - blocks, records[0]);
     check_part(BALZENOH_LIMIT - blocks, BALZENOH_LIMIT, records[1]);
@@ -36,6 +40,7 @@ static void prepare_records(void) {
 static void prepare_whole(void) {
     check_part(0, blocks, run);
     answer |= balzenoh_close(key, key_length, iv, 16, run, sizeof run, tag, sizeof tag);
+    answer |= balzenoh_close_sha1(key, key_length, iv, 16, run, sizeof run, tag_sha1, sizeof tag_sha1);
 }
 
 static void prepare_nothing(void) {}
@@ -81,6 +86,31 @@ static void test(void) {
     answer |= balzenoh_test(key, key_length, iv, 16, run, sizeof run, tag, sizeof tag);
 }
 
+static void seal_sha1(void) {
+    CALLER();
+    answer |= balzenoh_seal_sha1(key, key_length, iv, 16, message, 16 * (size_t)blocks - 1, out, sizeof out, &length);
+}
+
+static void open_sha1(void) {
+    CALLER();
+    answer |= balzenoh_open_sha1(key, key_length, sealed, 16 * (size_t)blocks + 36, out, sizeof out, &length);
+}
+
+static void close_sha1(void) {
+    CALLER();
+    answer |= balzenoh_close_sha1(key, key_length, iv, 16, run, sizeof run, tag_sha1, sizeof tag_sha1);
+}
+
+static void test_sha1(void) {
+    CALLER();
+    answer |= balzenoh_test_sha1(key, key_length, iv, 16, run, sizeof run, tag_sha1, sizeof tag_sha1);
+}
+
+static void sha1(void) {
+    CALLER();
+    answer |= balzenoh_sha1(message, 16 * (size_t)blocks - 1, out, sizeof out);
+}
+
 /* Forward and back: the deeper one counts. */
 static void jump(void) {
     CALLER();
@@ -101,6 +131,11 @@ static const struct {
     {"close", prepare_whole, close},
     {"test", prepare_whole, test},
     {"jump", prepare_nothing, jump},
+    {"sha1", prepare_nothing, sha1},
+    {"seal_sha1", prepare_nothing, seal_sha1},
+    {"open_sha1", prepare_sealed_sha1, open_sha1},
+    {"close_sha1", prepare_whole, close_sha1},
+    {"test_sha1", prepare_whole, test_sha1},
 };
 
 /* Every number up to 64, then every 31st, and the last. */
@@ -134,7 +169,7 @@ int main(void) {
             fprintf(stderr, "%s: %s\n", calls[call].name, answer != 0 ? "a call was refused" : "the painted stack is too small");
             return 1;
         }
-        printf("  %-9s %5zu\n", calls[call].name, most);
+        printf("  %-10s %5zu\n", calls[call].name, most);
     }
     return 0;
 }

@@ -67,6 +67,22 @@ fn the_benchmark_runs_both_lengths_of_a_key() {
     }
 }
 
+#[test]
+fn the_benchmark_runs_sha1_and_both_finishes() {
+    if !present("gcc") {
+        return;
+    }
+    let checkout = Checkout::new("hash");
+    let printed = told(&run(&checkout, "bench/hash", &["1"]));
+    for row in ["SHA-1, ns a text", "Balzenoh to plain C", "cipher finish  ", "hash finish  ", "difference"] {
+        assert_eq!(printed.matches(row).count(), 1, "{row:?} in {printed}");
+    }
+    assert!(told(&run(&checkout, "bench/hash", &["--help"])).contains("host/bench/hash [ROUNDS]"));
+    for wrong in [&["ten"][..], &["0"], &[""], &["1", "1"]] {
+        assert_eq!(run(&checkout, "bench/hash", wrong).status.code(), Some(64), "{wrong:?}");
+    }
+}
+
 /// A face with two engines, the first of them chosen.
 const FACE: &str = "pub const TABLES: u8 = 0;\npub const ARITHMETIC: u8 = 1;\npub const ENGINE: u8 = TABLES;\n";
 
@@ -106,8 +122,25 @@ fn the_archive_needs_memcpy_and_memset_alone() {
 }
 
 /// What the program prints figures of.
-const MEASURED: [&str; 12] =
-    ["code", "constants", "variables", "seal", "open", "seal_run", "check_run", "join", "join_list", "close", "test", "jump"];
+const MEASURED: [&str; 17] = [
+    "code",
+    "constants",
+    "variables",
+    "seal",
+    "open",
+    "seal_run",
+    "check_run",
+    "join",
+    "join_list",
+    "close",
+    "test",
+    "jump",
+    "sha1",
+    "seal_sha1",
+    "open_sha1",
+    "close_sha1",
+    "test_sha1",
+];
 
 /// The number behind a name that begins a line.
 fn figure(text: &str, name: &str) -> Option<usize> {
@@ -146,4 +179,5 @@ fn the_example_in_c_runs() {
     let checkout = Checkout::new("example");
     let printed = told(&run(&checkout, "c/run", &[]));
     assert_eq!(printed.matches("one bit flipped: refusal 6").count(), 2, "{printed}");
+    assert_eq!(printed.matches("the same record closed with the hash finish").count(), 2, "{printed}");
 }
