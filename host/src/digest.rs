@@ -4,8 +4,8 @@ use crate::raw;
 use crate::refusal::Refusal;
 use crate::sizes::DIGEST;
 
-/// SHA-1 of a text of up to 64,032 bytes, as FIPS 180-4 has it. No claim is made for its strength: it is here for the hash finish,
-/// and for those who check that.
+/// SHA-1 of a text of up to 64,032 bytes, as FIPS 180-4 has it. No claim is made for its strength: it is here for the hash
+/// finish, and for those who check that.
 ///
 /// # Errors
 ///

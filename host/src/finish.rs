@@ -4,8 +4,8 @@ use crate::sizes::{BLOCK, DIGEST};
 
 /// How the tag of a list is made: the two finishes of the mode's paper. Runs and their records do not know it.
 ///
-/// Nothing in a sealed record says which finish made it: those who seal and those who open must agree on it. A record of one finish
-/// has a length that the other refuses, and so has a tag.
+/// Nothing in a sealed record says which finish made it: those who seal and those who open must agree on it. A record of one
+/// finish has a length that the other refuses, and so has a tag.
 ///
 /// ```
 /// use balzenoh::{open_with, seal_with, Finish, Iv, Key, Refusal};

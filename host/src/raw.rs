@@ -1,5 +1,5 @@
-//! The calls on plain slices, exactly as the proved library has them. Those with a [`Finish`] are two functions in the library, one by the
-//! cipher and one by the hash.
+//! The calls on plain slices, exactly as the proved library has them. Those with a [`Finish`] are two functions in the library, one
+//! by the cipher and one by the hash.
 //!
 //! Nothing is checked here: a key of 15 bytes goes to the library, and the library refuses it. On success the answer stands at
 //! the start of the lent output and zeros follow to its end. On a refusal every lent output is zero from end to end.

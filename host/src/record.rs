@@ -185,7 +185,7 @@ pub fn close(key: &Key, iv: &Iv, record: &RunRecord) -> Result<Tag, Refusal> {
     Ok(Tag::from(tag))
 }
 
-/// Closes the record of a whole list into its tag by this finish. A record does not know the finish: it can be closed with either.
+/// Closes the record of a whole list into its tag by this finish. A record does not know the finish, and closes with either.
 ///
 /// # Errors
 ///

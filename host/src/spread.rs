@@ -95,8 +95,8 @@ pub fn check_in_runs(key: &Key, sealed: &[u8], runs: usize, threads: usize) -> R
     check_in_runs_with(Finish::Cipher, key, sealed, runs, threads)
 }
 
-/// Checks a sealed record in runs, on threads, with this finish. It passes where [`open_with`](crate::open_with) gives a message, or
-/// refuses for the padding alone. Runs and threads are as many as in [`seal_in_runs`].
+/// Checks a sealed record in runs, on threads, with this finish. It passes where [`open_with`](crate::open_with) gives a message,
+/// or refuses for the padding alone. Runs and threads are as many as in [`seal_in_runs`].
 ///
 /// # Errors
 ///

@@ -74,8 +74,8 @@ pub fn seal_into(key: &Key, iv: &Iv, message: &[u8], out: &mut [u8]) -> Result<u
     seal_into_with(Finish::Cipher, key, iv, message, out)
 }
 
-/// Seals with this finish into a lent output and returns the sealed record's length. All bytes beyond it are zero; on a refusal all
-/// are.
+/// Seals with this finish into a lent output and returns the sealed record's length. All bytes beyond it are zero; on a refusal
+/// all are.
 ///
 /// # Errors
 ///
@@ -120,8 +120,8 @@ pub fn open(key: &Key, sealed: &[u8]) -> Result<Vec<u8>, Refusal> {
 ///
 /// # Errors
 ///
-/// Those of [`open`]; [`Refusal::Length`] with [`Finish::Sha1`] for a record that is below 52 bytes, above 64,036 or not 36 over a
-/// multiple of 16.
+/// Those of [`open`]; [`Refusal::Length`] with [`Finish::Sha1`] for a record that is below 52 bytes, above 64,036 or not 36 over
+/// a multiple of 16.
 ///
 /// ```
 /// use balzenoh::{open_with, seal_with, Finish, Iv, Key, Refusal};
@@ -163,8 +163,8 @@ pub fn open_into(key: &Key, sealed: &[u8], out: &mut [u8]) -> Result<usize, Refu
     open_into_with(Finish::Cipher, key, sealed, out)
 }
 
-/// Opens with this finish into a lent output, which needs room for the whole ciphertext, and returns the message's length. All bytes
-/// beyond it are zero; on a refusal all are.
+/// Opens with this finish into a lent output, which needs room for the whole ciphertext, and returns the message's length. All
+/// bytes beyond it are zero; on a refusal all are.
 ///
 /// # Errors
 ///

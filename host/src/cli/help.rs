@@ -13,11 +13,11 @@ pub const SECTIONS: [(&str, &str); 4] = [
     (
         "VALUES",
         "A key, IV, tag, mask or record is given as hexadecimal digits, or as @FILE; @- is standard input. The file holds the \
-         bytes themselves, or their digits and a line end. A file of exactly the right size (16 bytes; a record 24, a tag with --finish sha1 20) is always \
-         taken as the bytes themselves; for a key one of 32 bytes too, unless they are digits, with or without a line end. A value of any other length is refused by its \
-         number, and so is one that is not made of digits. A key of 16 bytes is one of AES-128, a key of 32 bytes one of AES-256. \
-         Keys on the command line are seen by others on the machine: use a file. Zero bytes are no key: load a real one before \
-         the first list.",
+         bytes themselves, or their digits and a line end. A file of exactly the right size (16 bytes; a record 24, a tag with \
+         --finish sha1 20) is always taken as the bytes themselves; for a key one of 32 bytes too, unless they are digits, with or \
+         without a line end. A value of any other length is refused by its number, and so is one that is not made of digits. A \
+         key of 16 bytes is one of AES-128, a key of 32 bytes one of AES-256. Keys on the command line are seen by others on the \
+         machine: use a file. Zero bytes are no key: load a real one before the first list.",
     ),
     (
         "FINISHES",

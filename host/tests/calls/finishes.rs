@@ -58,7 +58,7 @@ fn every_bit_of_a_tag_counts() {
     bench.finish();
 }
 
-/// What the library's own calls put together: SHA-1 of the whole key, the pre-authenticator, and the start mask jumped by the count.
+/// Put together from the library's own calls: SHA-1 of the whole key, the pre-authenticator, and the start mask jumped by the count.
 #[test]
 fn the_hash_is_taken_of_key_preauthenticator_and_mask() {
     let mut random = Random::new(73);

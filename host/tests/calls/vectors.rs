@@ -1,5 +1,5 @@
-//! The published vectors: of FIPS 197 and FIPS 180-4, of the mode's paper with both finishes, and the examples of document 01. The records of
-//! vectors/make-mode-vectors.
+//! The published vectors: of FIPS 197 and FIPS 180-4, of the mode's paper with both finishes, and the examples of document 01. The
+//! records of vectors/make-mode-vectors.
 
 use std::fs;
 use std::path::Path;

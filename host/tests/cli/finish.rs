@@ -14,6 +14,10 @@ const C1: &str = "030F28E63B8A9C570D7FEF31940226F4";
 const TAGS: [(&str, &str); 2] =
     [("cipher", "CBBD199D075F7220957FD8205A233B9F"), ("sha1", "ECFA375F615DB07834F50C7B9C3B08A9C9D3F12F")];
 
+/// What is said of the length of a sealed list.
+const SEALED_CIPHER: &str = "a sealed list has 48 to 64,032, a multiple of 16";
+const SEALED_HASH: &str = "a sealed list with --finish sha1 has 52 to 64,036, 36 over a multiple of 16";
+
 /// The list as the mode seals it.
 fn sealed(finish: Finish, key: &str, list: &[u8]) -> Vec<u8> {
     let iv = digits(IV).try_into().expect("16 bytes");
@@ -69,23 +73,21 @@ fn the_other_finish_is_told() {
     folder.write("16", &sealed(Finish::Cipher, KEY, LIST));
     folder.write("20", &sealed(Finish::Sha1, KEY, LIST));
     folder.write("longest", &sealed(Finish::Sha1, KEY, &[0; 63_999]));
+    let (cipher, hash) = ("it could be one with --finish cipher", "it could be one with --finish sha1");
     let lines = [
-        ("open --key $K 20", "refusal 3: 20 has 68 bytes, and a sealed list has 48 to 64,032, a multiple of 16; it could be one with --finish sha1."),
-        ("check --key $K 20", "20 has 68 bytes, and a sealed list has 48 to 64,032, a multiple of 16; it could be one with --finish sha1."),
-        ("open --key $K longest", "longest has more than 64,032 bytes, and a sealed list has 48 to 64,032, a multiple of 16; it could be one with --finish sha1."),
-        (
-            "open --key $K --finish sha1 16",
-            "16 has 64 bytes, and a sealed list with --finish sha1 has 52 to 64,036, 36 over a multiple of 16; it could be one with --finish cipher.",
-        ),
-        ("check --key $K --finish sha1 /dev/null", "has 0 bytes, and a sealed list with --finish sha1 has 52 to 64,036, 36 over a multiple of 16."),
-        ("open --key $K --finish sha1 /dev/zero", "/dev/zero has more than 64,036 bytes, and a sealed list with --finish sha1 has 52 to 64,036"),
-        ("test --key $K --iv $I --finish sha1 --tag $I 0000000000000001$I", "--tag has 16 bytes, and a tag with --finish sha1 has 20."),
-        ("test --key $K --iv $I --tag ${I}01234567 0000000000000001$I", "--tag has 20 bytes, and a tag has 16."),
-        ("test --key $K --iv $I --finish sha1 --tag 012 0000000000000001$I", "--tag has 3 hexadecimal digits, and a tag with --finish sha1 has 40."),
+        ("open --key $K 20", format!("refusal 3: 20 has 68 bytes, and {SEALED_CIPHER}; {hash}.")),
+        ("check --key $K 20", format!("refusal 3: 20 has 68 bytes, and {SEALED_CIPHER}; {hash}.")),
+        ("open --key $K longest", format!("refusal 3: longest has more than 64,032 bytes, and {SEALED_CIPHER}; {hash}.")),
+        ("open --key $K --finish sha1 16", format!("refusal 3: 16 has 64 bytes, and {SEALED_HASH}; {cipher}.")),
+        ("check --key $K --finish sha1 /dev/null", format!("has 0 bytes, and {SEALED_HASH}.")),
+        ("open --key $K --finish sha1 /dev/zero", format!("has more than 64,036 bytes, and {SEALED_HASH}.")),
+        ("test --finish sha1 --tag $I", "--tag has 16 bytes, and a tag with --finish sha1 has 20.".to_string()),
+        ("test --tag ${I}01234567", "--tag has 20 bytes, and a tag has 16.".to_string()),
+        ("test --finish sha1 --tag 012", "--tag has 3 hexadecimal digits, and a tag with --finish sha1 has 40.".to_string()),
     ];
     for (line, message) in lines {
-        let told = folder.shell(&format!("$B {line}")).exits(3).tells(message);
-        told.prints(b"");
+        let rest = if line.starts_with("test") { format!(" --key $K --iv $I {RECORD}") } else { String::new() };
+        folder.shell(&format!("$B {line}{rest}")).exits(3).tells(&message).prints(b"");
     }
     // An earlier list goes, as after every refusal.
     folder.write("list", b"the list of yesterday");

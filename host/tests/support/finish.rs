@@ -17,8 +17,8 @@ pub fn around(finish: Finish) -> usize {
     16 + tag_length(finish)
 }
 
-/// The length of the ciphertext in a sealed record of this length: 16 to 64,000 bytes, whole blocks. Nothing where no record is so
-/// long.
+/// The length of the ciphertext in a sealed record of this length: 16 to 64,000 bytes, whole blocks. Nothing where no record is
+/// so long.
 pub fn ciphertext_length(finish: Finish, sealed: usize) -> Option<usize> {
     sealed.checked_sub(around(finish)).filter(|length| (16..=64_000).contains(length) && length % 16 == 0)
 }

@@ -1,5 +1,5 @@
-//! Cipher-State mode as its paper has it, over any cipher in two halves, with both finishes. What a long key lends to the start mask is
-//! ticket P8's rule, and that the hash finish takes all of it.
+//! Cipher-State mode as its paper has it, over any cipher in two halves, with both finishes. What a long key lends to the start mask
+//! is ticket P8's rule, and that the hash finish takes all of it.
 
 use super::cipher::Cipher;
 use super::finish::Finish;
