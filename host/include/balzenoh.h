@@ -45,7 +45,7 @@
  *    Zhang, Wang, "Attacking and Fixing the CS Mode") shows that the mode fails over a specially
  *    built cipher; no such attack over AES is given there.
  *  - SHA-1. It is that of FIPS 180-4, and no claim is made for its strength, or for that of the hash
- *    finish. Collisions of SHA-1 have been published.
+ *    finish.
  *  - A repeated IV. Under one key and IV, equal blocks at the same place of two lists give equal
  *    ciphertext blocks (document 000). Never use an IV twice under one key. The library does not
  *    choose IVs and cannot see that one is used again.
