@@ -13,7 +13,7 @@
 
 enum { LONG_TEXT = 64000, SHORT_TEXT = 48 };
 enum { LONG, SHORT, SIZES };
-enum { OURS, PLAIN, UNROLLED, HASHES };
+enum { OURS, PLAIN, PLAIN_SCALAR, FIVE, FIVE_SCALAR, HASHES };
 enum { CIPHER, HASH, FINISHES };
 enum { SEAL, OPEN, TASKS };
 
@@ -36,15 +36,15 @@ static void digest_by_library(const struct contestant *none, size_t bytes) {
     balzenoh_sha1(text, bytes, out, 20);
 }
 
-static void digest_by_plain_c(const struct contestant *none, size_t bytes) {
-    (void)none;
-    plain_sha1(text, bytes, out);
-}
-
-static void digest_unrolled(const struct contestant *none, size_t bytes) {
-    (void)none;
-    unrolled_sha1(text, bytes, out);
-}
+#define DIGEST_BY(name)                                                       \
+    static void digest_by_##name(const struct contestant *none, size_t bytes) { \
+        (void)none;                                                           \
+        name##_sha1(text, bytes, out);                                        \
+    }
+DIGEST_BY(plain)
+DIGEST_BY(plain_scalar)
+DIGEST_BY(five)
+DIGEST_BY(five_scalar)
 
 static int size_of(size_t blocks) {
     return blocks == LONG_LIST ? LONG : SHORT;
@@ -80,7 +80,7 @@ static void close_hash(const struct contestant *none, size_t blocks) {
     balzenoh_close_sha1(list_key, 16, list_iv, 16, run, sizeof run, out, BALZENOH_TAG_SHA1);
 }
 
-static work *const digests[HASHES] = {digest_by_library, digest_by_plain_c, digest_unrolled};
+static work *const digests[HASHES] = {digest_by_library, digest_by_plain, digest_by_plain_scalar, digest_by_five, digest_by_five_scalar};
 static work *const tasks[FINISHES][TASKS] = {{seal_cipher, open_cipher}, {seal_hash, open_hash}};
 static work *const closings[FINISHES] = {close_cipher, close_hash};
 
@@ -144,15 +144,20 @@ static void measure_round(void) {
         measure(&best.close[finish], 100, closings[finish], NULL, SHORT_LIST);
 }
 
+/* How many times as fast as the faster build of the C from `who` on the library is. */
+static double ratio(int who, int size) {
+    double one = best.hash[who][size], other = best.hash[who + 1][size];
+    return (one < other ? one : other) / best.hash[OURS][size];
+}
+
 static void print_digests(void) {
-    static const char *const names[HASHES] = {"Balzenoh", "plain C", "C, five steps at a time"};
+    static const char *const names[HASHES] = {"Balzenoh", "plain C", "  no vectorizer", "five steps at a time", "  no vectorizer"};
     printf("%-26s%14s%14s%10s\n", "SHA-1, ns a text", "64000 bytes", "48 bytes", "MB/s");
     for (int who = 0; who < HASHES; who++)
         printf("  %-24s%14.0f%14.0f%10.1f\n", names[who], best.hash[who][LONG], best.hash[who][SHORT],
                1e3 * LONG_TEXT / best.hash[who][LONG]);
-    for (int who = PLAIN; who < HASHES; who++)
-        printf("  %-24s%14.3f%14.3f\n", who == PLAIN ? "Balzenoh to plain C" : "Balzenoh to the other C",
-               best.hash[who][LONG] / best.hash[OURS][LONG], best.hash[who][SHORT] / best.hash[OURS][SHORT]);
+    printf("  %-24s%14.3f%14.3f\n", "to plain C", ratio(PLAIN, LONG), ratio(PLAIN, SHORT));
+    printf("  %-24s%14.3f%14.3f\n", "to five steps at a time", ratio(FIVE, LONG), ratio(FIVE, SHORT));
 }
 
 static void print_finishes(void) {
@@ -175,8 +180,8 @@ static void expect(const char *what, int decimals, double figure, const char *bo
 
 static void print_expectations(void) {
     printf("expected\n");
-    expect("SHA-1, 64000 bytes, to plain C", 3, best.hash[PLAIN][LONG] / best.hash[OURS][LONG], "at least", 0.90);
-    expect("SHA-1, 48 bytes, to plain C", 3, best.hash[PLAIN][SHORT] / best.hash[OURS][SHORT], "at least", 0.90);
+    expect("SHA-1, 64000 bytes, to plain C", 3, ratio(PLAIN, LONG), "at least", 0.90);
+    expect("SHA-1, 48 bytes, to plain C", 3, ratio(PLAIN, SHORT), "at least", 0.90);
     expect("seal, 64 bytes, hash finish less cipher finish, ns", 0, best.list[HASH][SEAL][SHORT] - best.list[CIPHER][SEAL][SHORT],
            "at most ", best.hash[OURS][SHORT]);
     expect("seal, 64000 bytes, hash finish over cipher finish", 3, best.list[HASH][SEAL][LONG] / best.list[CIPHER][SEAL][LONG],

@@ -1,4 +1,4 @@
-/* Compiled twice, with SHA1 being the function's name: as it is, and with UNROLLED set. */
+/* Compiled several times, with SHA1 being the function's name, and with FIVE set for five steps at a time. */
 #include "sha1.h"
 
 #include <string.h>
@@ -22,7 +22,7 @@ static uint32_t majority(uint32_t x, uint32_t y, uint32_t z) {
 }
 
 /* Twenty steps with one function of b, c and d and one constant. */
-#ifdef UNROLLED
+#ifdef FIVE
 #define STEP(a, b, c, d, e, function, constant, t) \
     e += rotated(a, 5) + function(b, c, d) + (uint32_t)(constant) + word[t], b = rotated(b, 30);
 #define TWENTY(from, function, constant)                  \

@@ -74,7 +74,7 @@ fn the_benchmark_runs_sha1_and_both_finishes() {
     }
     let checkout = Checkout::new("hash");
     let printed = told(&run(&checkout, "bench/hash", &["1"]));
-    for row in ["SHA-1, ns a text", "\n  Balzenoh to plain C ", "\n  cipher finish ", "\n  hash finish ", "\n  difference "] {
+    for row in ["SHA-1, ns a text", "\n  to plain C ", "\n  cipher finish ", "\n  hash finish ", "\n  difference "] {
         assert_eq!(printed.matches(row).count(), 1, "{row:?} in {printed}");
     }
     assert!(told(&run(&checkout, "bench/hash", &["--help"])).contains("host/bench/hash [ROUNDS]"));
