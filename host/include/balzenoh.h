@@ -88,19 +88,24 @@
  *  - Its size, and the stack that each call was seen to use, from its caller's frame down, as
  *    host/stack/run printed them, in bytes:
  *
- *      code      16513
- *      constants  1152
- *      variables     0
+ *      code       23958
+ *      constants   1168
+ *      variables      0
  *
- *      seal       3120
- *      open       3231
- *      seal_run   3168
- *      check_run  3135
- *      join        388
- *      join_list   452
- *      close      2480
- *      test       2464
- *      jump        244
+ *      seal        3200
+ *      open        3295
+ *      seal_run    3168
+ *      check_run   3135
+ *      join         388
+ *      join_list    452
+ *      close       2560
+ *      test        2576
+ *      jump         244
+ *      sha1         640
+ *      seal_sha1   3200
+ *      open_sha1   3295
+ *      close_sha1  2560
+ *      test_sha1   2576
  *
  *    No function recurses. No proof bounds the stack.
  *
