@@ -1,3 +1,4 @@
+#include "expect.h"
 #include "report.h"
 
 #include <stdio.h>
@@ -104,22 +105,6 @@ void print_table(const struct figures *f) {
     print_threads("one list, with the second thread's start", f->one_thread, f->two_threads, 1);
     print_threads("eight lists in turn, with its start", f->one_thread_lists, f->two_threads_lists, LISTS);
     print_threads("one list, second thread waiting", f->one_thread, f->with_helper, 1);
-}
-
-static void print_expectation(const char *what, double figure, const char *bound, double value, int met) {
-    printf("  %-52s%8.3f  %-8s %4.2f  %s\n", what, figure, bound, value, met ? "met" : "not met");
-}
-
-static void expect(const char *what, double figure, double least) {
-    print_expectation(what, figure, "at least", least, figure >= least);
-}
-
-static void expect_at_most(const char *what, double figure, double most) {
-    print_expectation(what, figure, "at most", most, figure <= most);
-}
-
-static void expect_ns_at_most(const char *what, double ns, double most) {
-    printf("  %-52s%8.0f  at most  %4.0f  %s\n", what, ns, most, ns <= most ? "met" : "not met");
 }
 
 void print_expectations(const struct figures *f) {
