@@ -8,7 +8,7 @@ use super::table;
 /// The names, in the order of `Finish::ALL`.
 pub const NAMES: [&str; 2] = ["cipher", "sha1"];
 
-/// The finish, by the cipher where none is named. Another name is not taken for an argument.
+/// The finish, by the cipher where none is named. What is named here is one of the names.
 pub fn finish(args: &Args) -> Finish {
     let named = |name| args.value(table::FINISH).is_some_and(|value| value == name);
     let found = NAMES.into_iter().zip(Finish::ALL).find(|(name, _)| named(*name));
