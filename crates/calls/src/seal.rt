@@ -58,9 +58,10 @@ fn seal_into(finish: Finish, key: &[u8], iv: &[u8], message: &[u8], out: &mut [u
     let tag = tags::tag::tag(finish, key, preauthenticator, mask, &keys);
     let at = crate::text::laid_out_length(message, true) + 16;
     tags::tag::put(finish, tag, out, at);
+    let end = at + mode::finish::tag_length(finish);
     Written {
         refusal: 0,
-        length: at + mode::finish::tag_length(finish),
+        length: end,
     }
 }
 

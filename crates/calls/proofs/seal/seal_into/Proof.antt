@@ -146,8 +146,8 @@ put-requires c κs =
 tag-length-requires : tie.Need-tag-length-requires
 tag-length-requires c κs = search needs
 
-add-t26 : tie.Need-add-t26
-add-t26 c =
+add-end : tie.Need-add-end
+add-end c =
     let n = c .before .before .before .before .before in
     let s = n .before .before .before .before .before .before .before .before .before .before .before .before .before .before .before .before .before .before .before .before .before .before in
     omega (arith, room-for n, c .tag-length .ensures, s .good .1 .1 .1 .1 .0 .0)
@@ -196,6 +196,6 @@ seal-into-spec =
     add-at
     put-requires
     tag-length-requires
-    add-t26
+    add-end
     same-length
     returns)
