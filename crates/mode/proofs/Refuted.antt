@@ -2,7 +2,7 @@
 -- which it does not hold.
 use mathlib.Core.Path.{_≡_, refl, sym, ap, _∙_}
 use mathlib.Core.Logic.{inl, inr, _↔_}
-use mathlib.Core.List.{List, [], _∷_, _++_}
+use mathlib.Core.List.{List, [], _∷_}
 use mathlib.Core.Bool.{Bool, cond}
 use Prim.Native.Nat.{ℕ, _+_, _*_, _-_, _%_}
 use native.Mathlib.Omega.{arith}
@@ -12,14 +12,13 @@ use Rattle.blocks.specs.Bytes.{xorBytes, same, concat}
 use Rattle.blocks.specs.Words.{bytesOf, wordsOf}
 use Rattle.blocks.specs.declared.words.Words.{Words}
 use Rattle.gf128.specs.Gf128.{jump}
-use Rattle.sha1.specs.Sha1.{sha1}
-use Rattle.mode.specs.Mode.{plaintext, ciphertext, RunRecord, inWords, zeroBlock, keyBlock, blocksOf, encrypt, startMask, pass, Finish, byCipher, bySha1, UnbrokenCheck}
+use Rattle.mode.specs.Mode.{plaintext, ciphertext, RunRecord, inWords, zeroBlock, keyBlock, blocksOf, encrypt, startMask, pass, Finish, byCipher, UnbrokenCheck}
 use Rattle.mode.specs.Table.{Answer, refused, given, decide, not16, anyBeyond, apart, none}
 use Rattle.mode.specs.Calls.{Kind, middle, last, blocksOfRun, Outcome, outcomeBy, joined, joinedAll, blank, joinTwo, joinTwoRows, joinList, joinListRows, passFrom, runRecord, sealRun, sealRunRows, checkRun, checkRunRows, close, closeRows, test, Calls}
 use Rattle.mode.specs.Parallel.{Segment, recorded, Call, runAt, joinPair, joinMany, Allowed, recordBy, start, afterAll}
 use Rattle.mode.specs.Demands.{startMaskBy, Gives, Refuses, Expected, Whole, Agrees, Demand3}
 use Rattle.mode.proofs.Decisions.{outcome-answer}
-use Rattle.mode.proofs.Toy.{toy, computed, aKey, aLongKey, anIv, onePiece, onePiece-formed, zeroKey, zeroKey-formed, replaced, replaced-formed, longReplaced, longReplaced-formed, onePieceLong, onePieceLong-formed, oneText, oneChecked, oneChecked-formed, twoChecked, twoChecked-formed, threePieces, threePieces-formed}
+use Rattle.mode.proofs.Toy.{toy, computed, aKey, anIv, onePiece, onePiece-formed, zeroKey, zeroKey-formed, replaced, replaced-formed, longReplaced, longReplaced-formed, oneText, oneChecked, oneChecked-formed, twoChecked, twoChecked-formed, threePieces, threePieces-formed}
 
 -- two words alike
 abbrev each : ℕ → Words
@@ -29,16 +28,12 @@ each word = record { high = word; low = word }
 
 -- the padding is 80 and zeros; the start mask is 3 in each byte, the middletext 80 + 3 + 1 and then 3 + 1, and the ciphertext (oneText) the
 -- middletext + 3
-abbrev oneRecord : RunRecord
+abbrev pub oneRecord : RunRecord
 oneRecord = record { first = 0; count = 1; preauthenticator = record { high = 0x8202020202020202; low = 0x0202020202020202 } }
 
 -- the mask after the block is 6 in each byte, and the tag the pre-authenticator + 6 + 1, plus the pre-authenticator
 abbrev oneTag : List ℕ
 oneTag = replicate 16 7
-
--- SHA-1 of the key, the pre-authenticator and that mask
-abbrev oneHash : List ℕ
-oneHash = 0xfa ∷ 0xb9 ∷ 0x71 ∷ 0x3c ∷ 0xc3 ∷ 0x92 ∷ 0xa4 ∷ 0x17 ∷ 0x3d ∷ 0xad ∷ 0x8c ∷ 0x7f ∷ 0x92 ∷ 0x2b ∷ 0x10 ∷ 0x42 ∷ 0xb1 ∷ 0xb4 ∷ 0x19 ∷ 0x1c ∷ []
 
 module _ (m : Calls) (d : Demand3 toy m) where
   -- (a run is allowed, whatever the calls answer)
@@ -66,51 +61,17 @@ module _ (m : Calls) (d : Demand3 toy m) where
   unfolding computed
   one-left t = rw (run-forced .answers, run-forced .reports, run-forced .writes)
 
-  one-whole : (t : Finish) → Whole toy m (onePiece t) oneRecord oneText
+  pub one-whole : (t : Finish) → Whole toy m (onePiece t) oneRecord oneText
   one-whole t = one t 16 .single _ oneRecord oneText (one-left t)
 
-  -- closing it gives this tag, by SHA-1 this one, and no other tag passes
+  -- closing it gives this tag, and no other tag passes
   close-forced : m .closes byCipher aKey anIv oneRecord ≡ given oneTag
   unfolding computed
   close-forced = one-whole byCipher .closes-whole
 
-  hash-forced : m .closes bySha1 aKey anIv oneRecord ≡ given oneHash
-  unfolding computed
-  hash-forced = one-whole bySha1 .closes-whole
-
-  test-hash-forced : (tag : List ℕ) → length tag ≡ 20 → (m .tests bySha1 aKey anIv oneRecord tag ≡ given tt) ↔ (oneHash ≡ tag)
-  unfolding computed
-  test-hash-forced = one-whole bySha1 .tests-whole
-
   test-forced : (tag : List ℕ) → length tag ≡ 16 → (m .tests byCipher aKey anIv oneRecord tag ≡ given tt) ↔ (oneTag ≡ tag)
   unfolding computed
   test-forced = one-whole byCipher .tests-whole
-
--- ---- one run under the key of 32 bytes: the start mask is 11 in each byte, so that the middletext is the same, and the mask after it is 22
-
-abbrev longTag : List ℕ
-longTag = 0x2b ∷ 0x72 ∷ 0x4b ∷ 0xb8 ∷ 0x00 ∷ 0x08 ∷ 0x5e ∷ 0x26 ∷ 0x37 ∷ 0x95 ∷ 0x5f ∷ 0xf8 ∷ 0x0c ∷ 0xaa ∷ 0x19 ∷ 0x67 ∷ 0xe1 ∷ 0x5d ∷ 0x62 ∷ 0x1f ∷ []
-
-abbrev longText : List ℕ
-longText = 0x89 ∷ replicate 15 9
-
-module _ (m : Calls) (d : Demand3 toy m) where
-  long-one : Agrees toy m (onePieceLong bySha1) (runAt 0 16 ∷ []) (afterAll m (onePieceLong bySha1) (start (onePieceLong bySha1)) (runAt 0 16 ∷ []))
-  unfolding computed
-  long-one = d (onePieceLong bySha1) refl (onePieceLong-formed bySha1) (runAt 0 16 ∷ []) ((lit< tt, refl), tt)
-
-  long-run-forced : Gives (m .seals-run aLongKey anIv 0 last [] 16) oneRecord longText 16
-  unfolding computed
-  long-run-forced = long-one .answers .0 .with-room (lit≤ tt)
-
-  long-one-left : afterAll m (onePieceLong bySha1) (start (onePieceLong bySha1)) (runAt 0 16 ∷ []) ≡ recorded (record { first = 0; kind = last; bytes = [] } ∷ []) oneRecord longText ∷ []
-  unfolding computed
-  long-one-left = rw (long-run-forced .answers, long-run-forced .reports, long-run-forced .writes)
-
-  -- all 32 bytes are hashed
-  long-hash-forced : m .closes bySha1 aLongKey anIv oneRecord ≡ given longTag
-  unfolding computed
-  long-hash-forced = long-one .single _ oneRecord longText long-one-left .closes-whole
 
 -- ---- checks, of a ciphertext of two blocks
 
@@ -224,7 +185,7 @@ other-number a b e = cc
 no-answer : {A : Type 0} (n : ℕ) (x : A) → _≡_ {A = Answer A} (refused n) (given x) → ⊥
 no-answer n x e = let z : _≡_ {A = ℕ} 0 1 = cc in omega arith
 
-same-answer : {A : Type 0} (x y : A) → _≡_ {A = Answer A} (given x) (given y) → x ≡ y
+pub same-answer : {A : Type 0} (x y : A) → _≡_ {A = Answer A} (given x) (given y) → x ≡ y
 same-answer x y e = cc
 
 -- our calls, but for the sealing of a run
@@ -426,7 +387,7 @@ wrong-number-later-refuted d =
 pub maskBefore : Finish → List ℕ → List ℕ → RunRecord → Answer (List ℕ)
 maskBefore t key iv r = decide (closeRows inWords toy key iv r) (t .tagFrom toy key (bytesOf (r .preauthenticator)) (jump (r .count - 1) (startMask toy key iv)))
 
-abbrev closingBy : (Finish → List ℕ → List ℕ → RunRecord → Answer (List ℕ)) → (Finish → List ℕ → List ℕ → RunRecord → List ℕ → Answer (Unit {0})) → Calls
+abbrev pub closingBy : (Finish → List ℕ → List ℕ → RunRecord → Answer (List ℕ)) → (Finish → List ℕ → List ℕ → RunRecord → List ℕ → Answer (Unit {0})) → Calls
 closingBy closes tests = record { seals-run = sealRun inWords toy; checks-run = checkRun inWords toy; joins-two = joinTwo inWords; joins-list = joinList inWords; closes = closes; tests = tests }
 
 pub mask-before-last-refuted : Demand3 toy (closingBy maskBefore (λ t. test inWords t toy)) → ⊥
@@ -451,37 +412,3 @@ passes-any-checked-refuted d =
 
 pub passes-no-checked-refuted : Demand3 toy (closingBy (λ t. close inWords t toy) (λ t key iv r tag. refused 6)) → ⊥
 passes-no-checked-refuted d = no-answer 6 tt ((checked-test-forced (closingBy (λ t. close inWords t toy) (λ t key iv r tag. refused 6)) d 7) .1 refl)
-
--- ---- wrong finishes: one tag for both, and what is hashed
-
-pub cipherForBoth : Finish → List ℕ → List ℕ → RunRecord → Answer (List ℕ)
-cipherForBoth t = close inWords byCipher toy
-
-pub cipher-for-both-refuted : Demand3 toy (closingBy cipherForBoth (λ t. test inWords t toy)) → ⊥
-unfolding computed cipherForBoth
-cipher-for-both-refuted d =
-    let e : _≡_ {A = ℕ} 7 0xfa = ap (λ (t : List ℕ). getD t 0 0) (same-answer _ _ (hash-forced (closingBy cipherForBoth (λ t. test inWords t toy)) d)) in
-    omega arith
-
--- SHA-1 of something else, whatever the finish
-pub hashing : (List ℕ → List ℕ → List ℕ → List ℕ) → Finish → List ℕ → List ℕ → RunRecord → Answer (List ℕ)
-hashing text t key iv r = decide (closeRows inWords toy key iv r) (sha1 (text key (bytesOf (r .preauthenticator)) (jump (r .count) (startMask toy key iv))))
-
-pub mask-first-refuted : Demand3 toy (closingBy (hashing (λ key a mask. key ++ mask ++ a)) (λ t. test inWords t toy)) → ⊥
-unfolding computed hashing
-mask-first-refuted d =
-    let e : _≡_ {A = ℕ} 0xd8 0xfa = ap (λ (t : List ℕ). getD t 0 0) (same-answer _ _ (hash-forced (closingBy (hashing (λ key a mask. key ++ mask ++ a)) (λ t. test inWords t toy)) d)) in
-    omega arith
-
--- of the first 16 bytes of a key of 32
-pub first-16-hashed-refuted : Demand3 toy (closingBy (hashing (λ key a mask. keyBlock key ++ a ++ mask)) (λ t. test inWords t toy)) → ⊥
-unfolding computed hashing
-first-16-hashed-refuted d =
-    let e : _≡_ {A = ℕ} 0xe5 0x2b = ap (λ (t : List ℕ). getD t 0 0) (same-answer _ _ (long-hash-forced (closingBy (hashing (λ key a mask. keyBlock key ++ a ++ mask)) (λ t. test inWords t toy)) d)) in
-    omega arith
-
--- a test that passes every tag of 20 bytes
-pub passes-any-hash-refuted : Demand3 toy (closingBy (λ t. close inWords t toy) (λ t key iv r tag. given tt)) → ⊥
-passes-any-hash-refuted d =
-    let e : _≡_ {A = ℕ} 0xfa 0 = ap (λ (t : List ℕ). getD t 0 0) ((test-hash-forced (closingBy (λ t. close inWords t toy) (λ t key iv r tag. given tt)) d (replicate 20 0) refl) .0 refl) in
-    omega arith

@@ -19,7 +19,6 @@ use Rattle.mode.specs.Calls.{unalignedRun, blocksOfRun, outcomeBy, joine
 use Rattle.mode.specs.Parallel.{sealing, checking, sourceOf, finishOf, ivOf, textOf, lastKind, allBlocks, Fits, Cut, Setting, WellFormed, runsFrom, blocksOfRuns, runsIn, recordIn, bytesIn, isRecorded, runsOf, bytesOfSegments, blocksIn, consecutive, AllRecorded, Allowed, mergeBy, recordBy, headOr, firstRun, empties, start, roomOf, outcomeOfRun, runOutcome, answerOf, after, afterAll, EachCall}
 use Rattle.mode.specs.Demands.{whole, wholeTag, recordOfSegments, ciphertextOfSegment, Expected, TestedAs}
 use Rattle.fips197.proofs.Keys.{at-least-16}
-use Rattle.sha1.proofs.Computed as Sha1
 use Rattle.mode.proofs.Laws.{xor-long}
 
 -- the first half adds the last 16 bytes of the key, and the second changes nothing
@@ -62,7 +61,7 @@ toy-lawful =
 
 -- to unfold this is to unfold all that a small case computes by
 unfoldable pub computed : Unit {0}
-unfolding xorBytes firstBlocks same concat num lowBytes bytesOf wordsOf timesX jump carry shiftLeft reduction blocksOf padded keyBlock encrypt startMask middletext written pass unbroken recordOf ivPart cipherPart tagPart encryptedTag hashedTag unbrokenTag sealedRecord decide notKey not16 unaligned beyond anyBeyond apart none notWhole notTag notSealed zeroMask unalignedRun blocksOfRun outcomeBy joined joinedOnto joinedAll joinTwo joinList passFrom runRecord sealRun checkRun closingTag close test openSealed openRows notPadded orEmpty unpadded unpadFrom plaintextOf decrypted sourceOf finishOf ivOf textOf lastKind allBlocks Fits Cut runsFrom blocksOfRuns runsIn recordIn bytesIn isRecorded runsOf bytesOfSegments blocksIn consecutive AllRecorded Allowed mergeBy recordBy headOr firstRun empties start roomOf outcomeOfRun runOutcome answerOf after afterAll EachCall whole wholeTag recordOfSegments ciphertextOfSegment Expected TestedAs Sha1.computed
+unfolding xorBytes firstBlocks same concat num lowBytes bytesOf wordsOf timesX jump carry shiftLeft reduction blocksOf padded keyBlock encrypt startMask middletext written pass unbroken recordOf ivPart cipherPart tagPart encryptedTag hashedTag unbrokenTag sealedRecord decide notKey not16 unaligned beyond anyBeyond apart none notWhole notTag notSealed zeroMask unalignedRun blocksOfRun outcomeBy joined joinedOnto joinedAll joinTwo joinList passFrom runRecord sealRun checkRun closingTag close test openSealed openRows notPadded orEmpty unpadded unpadFrom plaintextOf decrypted sourceOf finishOf ivOf textOf lastKind allBlocks Fits Cut runsFrom blocksOfRuns runsIn recordIn bytesIn isRecorded runsOf bytesOfSegments blocksIn consecutive AllRecorded Allowed mergeBy recordBy headOr firstRun empties start roomOf outcomeOfRun runOutcome answerOf after afterAll EachCall whole wholeTag recordOfSegments ciphertextOfSegment Expected TestedAs
 computed = tt
 
 abbrev pub aKey : List ℕ
@@ -111,14 +110,6 @@ longReplaced = record { key = aLongKey; work = sealing byCipher (replicate 16 9)
 pub longReplaced-formed : WellFormed longReplaced
 unfolding computed
 longReplaced-formed = record { key-is = aLongKey-is; iv-bytes = bytes-by (replicate 16 9) tt; text-bytes = bytes-by [] tt; fits = (refl, lit≤ tt); cut = tt; pieces-are = refl }
-
--- the empty message under the key of 32 bytes, with any finish
-abbrev pub onePieceLong : Finish → Setting
-onePieceLong t = record { key = aLongKey; work = sealing t anIv []; pieces = [] ∷ [] }
-
-pub onePieceLong-formed : (t : Finish) → WellFormed (onePieceLong t)
-unfolding computed
-onePieceLong-formed t = record { key-is = aLongKey-is; iv-bytes = bytes-by anIv tt; text-bytes = bytes-by [] tt; fits = (refl, lit≤ tt); cut = tt; pieces-are = refl }
 
 -- the sealed record of the empty message with some tag, its ciphertext in one piece: the tag is 7 in each byte (proofs/Refuted.antt)
 abbrev pub oneText : List ℕ

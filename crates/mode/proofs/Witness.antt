@@ -1,17 +1,17 @@
 -- The statements of the demands are not empty: a list of calls over a message that is allowed, with four refused calls, an empty run and a
 -- join of a list; one over a ciphertext; one under a key of 32 bytes; a pair that is left out, and its neighbours, which are not; and records that are opened, refused
--- with 6 and refused with 7; and the same with the hash finish.
+-- with 6 and refused with 7. The crate `examples` has some with the hash finish.
 use mathlib.Core.Path.{_≡_, refl}
 use mathlib.Core.Logic.{inl, inr}
 use mathlib.Core.List.{List, [], _∷_, _++_}
 use Prim.Native.Nat.{ℕ}
-use lib.ListN.{length, take, getD, replicate}
+use lib.ListN.{take, getD, replicate}
 use lib.Dec.{lit<, lit≤}
 use lib.Bits.{bitXor}
 use Rattle.blocks.proofs.Test.{bytes-by}
-use Rattle.mode.specs.Mode.{byCipher, bySha1, plaintext, RunRecord, inWords, zeroBlock, sealedRecord, unbroken, unbrokenTag}
+use Rattle.mode.specs.Mode.{byCipher, plaintext, RunRecord, inWords, zeroBlock, sealedRecord, unbroken, unbrokenTag}
 use Rattle.mode.specs.Table.{refused, given}
-use Rattle.mode.specs.Calls.{middle, last, number, sealRun, test, callsOf, openSealed}
+use Rattle.mode.specs.Calls.{middle, last, number, sealRun, callsOf, openSealed}
 use Rattle.mode.specs.Parallel.{sealing, Setting, WellFormed, Run, Segment, recorded, blocksIn, Call, runAt, joinPair, joinMany, Allowed, start, answerOf, after, afterAll, EachCall}
 use Rattle.mode.specs.Demands.{Agrees}
 use Rattle.mode.proofs.Demand3.{demand3}
@@ -192,45 +192,3 @@ unpaddedRecord =
 not-padded : (openSealed byCipher toy aKey unpaddedRecord 16) .answer ≡ refused 7
 unfolding computed
 not-padded = refl
-
--- ---- the hash finish
-
-abbrev hashed : List ℕ
-hashed = sealedRecord bySha1 toy aKey anIv (5 ∷ 6 ∷ 7 ∷ [])
-
--- a block is 52 bytes, and is opened; with a bit of its tag flipped it is not
-hashed-opens : (length hashed ≡ 52) × ((openSealed bySha1 toy aKey hashed 16) .answer ≡ given (5 ∷ 6 ∷ 7 ∷ []))
-unfolding computed
-hashed-opens = (refl, refl)
-
-hashed-flipped : (openSealed bySha1 toy aKey (take 51 hashed ++ (bitXor (getD hashed 51 0) 1 ∷ [])) 16) .answer ≡ refused 6
-unfolding computed
-hashed-flipped = refl
-
--- either finish refuses the other's records, and the other's tags, with 3
-others-records : ((openSealed byCipher toy aKey hashed 16) .answer ≡ refused 3) × ((openSealed bySha1 toy aKey sealed 16) .answer ≡ refused 3)
-unfolding computed
-others-records = (refl, refl)
-
-abbrev someRecord : RunRecord
-someRecord = record { first = 0; count = 1; preauthenticator = record { high = 0; low = 0 } }
-
-others-tags : (test inWords bySha1 toy aKey anIv someRecord (replicate 16 0) ≡ refused 3) × (test inWords byCipher toy aKey anIv someRecord (replicate 20 0) ≡ refused 3)
-unfolding computed
-others-tags = (refl, refl)
-
--- 21 bytes in two pieces, the second first
-abbrev hashedPieces : Setting
-hashedPieces = record { key = aLongKey; work = sealing bySha1 anIv (replicate 16 3 ++ replicate 5 5); pieces = replicate 16 3 ∷ replicate 5 5 ∷ [] }
-
-hashed-formed : WellFormed hashedPieces
-unfolding computed
-hashed-formed =
-    record { key-is = aLongKey-is; iv-bytes = bytes-by anIv tt; text-bytes = bytes-by (replicate 16 3 ++ replicate 5 5) tt; fits = (refl, lit≤ tt); cut = (refl, tt); pieces-are = refl }
-
-hashed-allowed : EachCall (callsOf toy) hashedPieces Allowed (start hashedPieces) longCalls
-unfolding computed
-hashed-allowed = ((lit< tt, refl), ((lit< tt, refl), ((lit< tt, refl), (((refl, (refl, tt)), inl refl), tt))))
-
-hashed-agrees : Agrees toy (callsOf toy) hashedPieces longCalls (afterAll (callsOf toy) hashedPieces (start hashedPieces) longCalls)
-hashed-agrees = demand3 toy toy-lawful hashedPieces (unfold computed in refl) hashed-formed longCalls hashed-allowed
