@@ -54,7 +54,7 @@ pub extern "C" fn balzenoh_seal_sha1(
 fn open_with(finish: Finish, key: &[u8], sealed: &[u8], out: &mut [u8], length: &mut usize) -> u8
     ensures { λ n. ⌜ Reported (openSealed (finishNamed finish) aes (now (key .entry)) (now (sealed .entry)) (lengthOf (now (out .entry)))) n (now (length .exit)) (now (out .exit)) ⌝ }
 {
-    let answer = calls::open::open(finish, key, sealed, out);
+    let answer = opening::open(finish, key, sealed, out);
     *length = answer.length;
     answer.refusal
 }

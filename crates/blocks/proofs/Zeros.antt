@@ -1,11 +1,11 @@
--- Lists of zeros, and blocks stored among them.
+-- Lists of zeros, bytes stored among them, and outputs that hold them.
 use mathlib.Core.Path.{_≡_, refl, sym, ap, ap₂, _∙_}
 use mathlib.Core.List.{List, [], _∷_, _++_}
 use Prim.Native.Nat.{ℕ, zero, suc, _+_, _-_, _<_}
 use native.Mathlib.Omega.{arith}
 use lib.ListN.{length, take, drop, set, length-replicate}
 use lib.Seq.{set-at, take-at, drop-append-add}
-use Rattle.blocks.specs.Bytes.{zeros}
+use Rattle.blocks.specs.Bytes.{zeros, Fresh}
 
 pub drop-zeros : (n m : ℕ) → drop n (zeros m) ≡ zeros (m - n)
 drop-zeros zero m = ap zeros (let e : m ≡ m - 0 = omega arith in e)
@@ -34,3 +34,14 @@ stored-after k front old new b n left l eo en =
 
 pub stored-front : (k : ℕ) (old new b : List ℕ) (room : ℕ) → old ≡ zeros room → new ≡ take 0 old ++ b ++ drop (0 + k) old → new ≡ b ++ zeros (room - k)
 stored-front k old new b room = stored-after k [] old new b 0 room refl
+
+-- ---- outputs
+
+-- a cleared output
+pub fresh : (n : ℕ) (new : List ℕ) → new ≡ zeros n → Fresh new
+fresh n new e = record { zero = e ∙ ap zeros (sym (ap length e ∙ length-zeros n)) }
+
+-- one that held zeros, written to the front
+pub over-zeros : (n m : ℕ) (output old new : List ℕ) → n ≡ m → old ≡ zeros (length old) → new ≡ output ++ drop n old → new ≡ output ++ zeros (length old - m)
+over-zeros n m output old new e eo en =
+    en ∙ ap (λ (x : List ℕ). output ++ drop n x) eo ∙ ap (λ (x : List ℕ). output ++ x) (drop-zeros n (length old) ∙ ap (λ (k : ℕ). zeros (length old - k)) e)

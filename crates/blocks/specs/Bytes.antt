@@ -24,6 +24,10 @@ pub data Blocks : List (List ℕ) → Type 0 where
 abbrev pub zeros : ℕ → List ℕ
 zeros n = replicate n 0
 
+-- an output that holds zeros
+pub record Fresh (out : List ℕ) : Type 0 where
+  pub zero : out ≡ zeros (length out)
+
 -- exclusive or, byte by byte; as long as the shorter
 unfoldable pub xorBytes : List ℕ → List ℕ → List ℕ
 xorBytes [] b = []

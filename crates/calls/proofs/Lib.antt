@@ -1,6 +1,3 @@
--- LaidOut: how runs are laid out. Outputs: an output that is written part by part. Fits: where no row holds, the output is long enough.
--- Opening: where the message ends, and what is let out.
+-- LaidOut: how runs are laid out. Fits: where no row holds, the output is long enough.
 pub mod LaidOut
-pub mod Outputs
 pub mod Fits
-pub mod Opening

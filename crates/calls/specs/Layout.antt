@@ -1,16 +1,9 @@
--- A run as it is sealed, with the padding of a last run; an output that holds zeros.
-use mathlib.Core.Path.{_≡_}
+-- A run as it is sealed, with the padding of a last run.
 use mathlib.Core.Bool.{Bool, true, false}
 use mathlib.Core.List.{List}
 use Prim.Native.Nat.{ℕ, _+_, _*_, _/_}
-use lib.ListN.{length}
-use Rattle.blocks.specs.Bytes.{zeros}
 use Rattle.mode.specs.Mode.{padded}
 use Rattle.mode.specs.Calls.{Kind, middle, last}
-
--- it holds zeros
-pub record Fresh (out : List ℕ) : Type 0 where
-  pub zero : out ≡ zeros (length out)
 
 -- document 01's middle and last runs, by the code's flag
 unfoldable pub kindOf : Bool → Kind

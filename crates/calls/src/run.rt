@@ -8,13 +8,13 @@ ghost use mathlib.Core.Path.{_≡_};
 ghost use mathlib.Core.List.{_++_};
 ghost use Prim.Native.Nat.{_+_, _-_, _%_, _/_, _≤_};
 ghost use lib.ListN.{length};
-ghost use Rattle.blocks.specs.Bytes.{zeros};
+ghost use Rattle.blocks.specs.Bytes.{zeros, Fresh};
 ghost use Rattle.mode.specs.Mode.{plaintext, ciphertext, blocksOf, inWords};
 ghost use Rattle.fips197.specs.Aes.{KeyLength};
 ghost use Rattle.mode.specs.Aes.{aes};
 ghost use Rattle.mode.specs.Table.{firstRow, limit};
 ghost use Rattle.mode.specs.Calls.{sealRunRows, blocksOfRun, passFrom, runRecord, sealRun, checkRun, runAnswerOf, recordAnswerOf};
-ghost use Rattle.calls.specs.Layout.{Fresh, kindOf, laidOutLength};
+ghost use Rattle.calls.specs.Layout.{kindOf, laidOutLength};
 ghost use Rattle.calls.specs.Work.{runRows, runGiven, refusedRun};
 
 // The first of the rows that sealing and checking a run share, or 0. The run has `size` bytes as it is laid out.

@@ -5,14 +5,13 @@ ghost use mathlib.Core.Path.{_≡_};
 ghost use mathlib.Core.List.{_++_};
 ghost use Prim.Native.Nat.{_+_, _*_, _-_, _/_, _≤_};
 ghost use lib.ListN.{length};
-ghost use Rattle.blocks.specs.Bytes.{zeros};
+ghost use Rattle.blocks.specs.Bytes.{zeros, Fresh};
 ghost use Rattle.mode.specs.Mode.{sealedRecord, finishNamed};
 ghost use Rattle.fips197.specs.Aes.{KeyLength};
 ghost use Rattle.mode.specs.Aes.{aes};
 ghost use Rattle.mode.specs.Table.{firstRow};
-ghost use Rattle.mode.specs.Calls.{sealRows, seal as sealOf, writtenOf};
-ghost use Rattle.calls.specs.Layout.{Fresh};
-ghost use Rattle.calls.specs.Work.{writtenGiven, sealedLength};
+ghost use Rattle.mode.specs.Calls.{sealRows, seal as sealOf, writtenOf, writtenGiven};
+ghost use Rattle.calls.specs.Work.{sealedLength};
 
 // The first row of the table that holds, or 0.
 fn seal_refusal(finish: Finish, key: &[u8], iv: &[u8], message: &[u8], room: usize) -> u8

@@ -8,7 +8,8 @@ ghost use Rattle.blocks.specs.Words.{bytesOf};
 ghost use Rattle.mode.specs.Mode.{plaintext, zeroBlock, blocksOf, pass};
 ghost use Rattle.mode.specs.Aes.{aes};
 ghost use Rattle.cipher.specs.Keys.{keyOf, Expanded};
-ghost use Rattle.calls.specs.Layout.{Fresh, laidOut, laidOutLength};
+ghost use Rattle.blocks.specs.Bytes.{Fresh};
+ghost use Rattle.calls.specs.Layout.{laidOut, laidOutLength};
 ghost use Rattle.calls.specs.Work.{TextSealed};
 
 // The number of bytes of a run as it is laid out. A last run has at least one block.

@@ -10,6 +10,6 @@ pub fn answers(key: &[u8], sealed: &[u8], out: &mut [u8], refusal: u8, message: 
     ensures { λ r. ⌜ r ≤ 1 ⌝ }
 {
     noise(out);
-    let w = calls::open::open(Finish::Cipher, key, sealed, out);
+    let w = opening::open(Finish::Cipher, key, sealed, out);
     one_if(answered(w, refusal, message, out))
 }

@@ -268,6 +268,10 @@ orElse d (given a) = a
 unfoldable pub writtenOf : {A : Type 0} → Outcome A → Written
 writtenOf o = record { refusal = number (o .answer); length = o .reported }
 
+-- with nothing refused
+abbrev pub writtenGiven : ℕ → Written
+writtenGiven n = record { refusal = 0; length = n }
+
 unfoldable pub runAnswerOf : Outcome RunRecord → RunAnswer
 runAnswerOf o = record { refusal = number (o .answer); length = o .reported; run = orElse (blank inWords) (o .answer) }
 

@@ -15,7 +15,7 @@ use Rattle.calls.proofs.LaidOut.{run-output-long}
 use Rattle.mode.proofs.Answers.{refuses, gives, refused-run, given-run, refused-output, given-output}
 use Rattle.mode.proofs.Passed.{key-passed, iv-16}
 use Rattle.calls.proofs.Fits.{run-fits}
-use Rattle.calls.proofs.Outputs.{fresh}
+use Rattle.blocks.proofs.Zeros.{fresh}
 use Rattle.calls.proofs.run.seal_run.Statement.{statement}
 use Rattle.calls.proofs.run.seal_run.Tie as tie
 

@@ -17,7 +17,7 @@ use Rattle.mode.proofs.Answers.{refuses, gives, refused-written, given-written,
 use Rattle.mode.proofs.Passed.{key-passed, iv-16}
 use Rattle.calls.specs.Work.{sealedLength}
 use Rattle.calls.proofs.Fits.{sealed-fits}
-use Rattle.calls.proofs.Outputs.{fresh}
+use Rattle.blocks.proofs.Zeros.{fresh}
 use Rattle.calls.proofs.seal.seal.Statement.{statement}
 use Rattle.calls.proofs.seal.seal.Tie as tie
 

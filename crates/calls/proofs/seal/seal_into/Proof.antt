@@ -24,7 +24,7 @@ use Rattle.calls.specs.Work.{sealedLength}
 use Rattle.blocks.proofs.Zeros.{length-zeros}
 use Rattle.blocks.proofs.Parts.{whole-16}
 use Rattle.blocks.proofs.Zeros.{stored-front, stored-after}
-use Rattle.calls.proofs.Outputs.{fresh}
+use Rattle.blocks.proofs.Zeros.{fresh}
 use Rattle.calls.proofs.seal.seal_into.Statement.{statement}
 use Rattle.calls.proofs.seal.seal_into.Tie as tie
 

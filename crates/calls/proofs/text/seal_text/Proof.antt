@@ -14,7 +14,7 @@ use Rattle.runs.specs.Task.{wrote}
 use Rattle.runs.specs.Run.{ran}
 use Rattle.calls.specs.Layout.{laidOutLength}
 use Rattle.calls.proofs.LaidOut.{blocks-there, blocks-within}
-use Rattle.calls.proofs.Outputs.{over-zeros}
+use Rattle.blocks.proofs.Zeros.{over-zeros}
 use Rattle.calls.proofs.text.seal_text.Statement.{statement}
 use Rattle.calls.proofs.text.seal_text.Tie as tie
 

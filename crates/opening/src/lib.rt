@@ -1,4 +1,5 @@
-// Open a sealed record.
+// Open a sealed record. Any bytes and lengths may be handed in: the call gives the message or the number of the first row of the table that holds.
+// After a refusal the lent output is zero from end to end.
 use mode::Written;
 use mode::finish::Finish;
 use runs::run::Task;
@@ -10,8 +11,8 @@ ghost use Rattle.mode.specs.Mode.{finishNamed, overhead};
 ghost use Rattle.mode.specs.Aes.{aes};
 ghost use Rattle.mode.specs.Table.{firstRow, notSealed};
 ghost use Rattle.mode.specs.Calls.{openSealed, writtenOf};
-ghost use Rattle.calls.specs.Layout.{Fresh};
-ghost use Rattle.calls.specs.Work.{openFirstRows, messageEnd, released, SealedLengths, TextOpened};
+ghost use Rattle.blocks.specs.Bytes.{Fresh};
+ghost use Rattle.opening.specs.Work.{openFirstRows, messageEnd, released, SealedLengths, TextOpened};
 
 // Whether a record has a length that opening does not take: with no block, with too many, or with a part of one.
 fn not_sealed(finish: Finish, sealed: &[u8]) -> bool

@@ -16,8 +16,8 @@ use Rattle.mode.specs.Parallel.{Fits}
 use Rattle.mode.proofs.Rows.{row-holds, row-passes, no-row}
 use Rattle.mode.proofs.Demand2.{sealed-lengths}
 use Rattle.mode.proofs.Demand3.{cipher-length}
-use Rattle.calls.proofs.open.open_refusal.Statement.{statement}
-use Rattle.calls.proofs.open.open_refusal.Tie as tie
+use Rattle.opening.proofs.open_refusal.Statement.{statement}
+use Rattle.opening.proofs.open_refusal.Tie as tie
 
 not-key-requires : tie.Need-not-key-requires
 not-key-requires c κs = search needs

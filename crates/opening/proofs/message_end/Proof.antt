@@ -5,9 +5,9 @@ use native.Mathlib.Omega.{arith}
 use lib.ListN.{length}
 use lib.ListN.{drop}
 use Rattle.blocks.specs.Bytes.{zeros}
-use Rattle.calls.proofs.Opening.{other-byte, all-zero, behind, one-more, nothing-behind, ends-there, ends-nowhere}
-use Rattle.calls.proofs.open.message_end.Statement.{statement}
-use Rattle.calls.proofs.open.message_end.Tie as tie
+use Rattle.opening.proofs.Opening.{other-byte, all-zero, behind, one-more, nothing-behind, ends-there, ends-nowhere}
+use Rattle.opening.proofs.message_end.Statement.{statement}
+use Rattle.opening.proofs.message_end.Tie as tie
 
 abbrev Inv-loop : tie.InvT-loop
 Inv-loop text size end₀ left₀ end left = (size ≡ length text) × ((end + 16 ≡ size + left) × ((left ≤ 16) × (drop end text ≡ zeros (size - end))))

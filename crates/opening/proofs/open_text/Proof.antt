@@ -17,9 +17,9 @@ use Rattle.runs.specs.declared.run.Task.the-variants.{Open}
 use Rattle.runs.specs.Task.{wrote}
 use Rattle.runs.specs.Run.{ran}
 use Rattle.runs.proofs.Text.{whole-blocks}
-use Rattle.calls.proofs.Outputs.{over-zeros}
-use Rattle.calls.proofs.open.open_text.Statement.{statement}
-use Rattle.calls.proofs.open.open_text.Tie as tie
+use Rattle.blocks.proofs.Zeros.{over-zeros}
+use Rattle.opening.proofs.open_text.Statement.{statement}
+use Rattle.opening.proofs.open_text.Tie as tie
 
 -- the ciphertext's part of the record
 part-is : (t : Finish) (sealed : List ℕ) (o : ℕ) → o ≡ overhead t → take (16 + (length sealed - o) - 16) (drop 16 sealed) ≡ cipherPart t sealed

@@ -8,10 +8,10 @@ use lib.ListN.{length}
 use lib.ListN.{take, length-drop}
 use lib.Seq.{take-take, length-take-le}
 use Rattle.blocks.specs.Bytes.{zeros}
-use Rattle.calls.proofs.Opening.{end-within, nothing-released, message-released}
+use Rattle.opening.proofs.Opening.{end-within, nothing-released, message-released}
 use Rattle.blocks.proofs.Parts.{back-is, back-put}
-use Rattle.calls.proofs.open.release.Statement.{statement}
-use Rattle.calls.proofs.open.release.Tie as tie
+use Rattle.opening.proofs.release.Statement.{statement}
+use Rattle.opening.proofs.release.Tie as tie
 
 within : (c : tie.After-message-end) → c .message-end .result ≤ length (c .before .before .before .args .out .now)
 within c =

@@ -13,17 +13,17 @@ use Rattle.fips197.specs.Aes.{KeyLength}
 use Rattle.mode.specs.Mode.{finishNamed, overhead, ciphertext, blocksOf, unbrokenTag, ivPart, cipherPart, tagPart}
 use Rattle.mode.specs.Aes.{aes}
 use Rattle.mode.specs.Calls.{Outcome, openSealed, plaintextOf, writtenOf}
-use Rattle.calls.specs.Work.{SealedLengths, released}
+use Rattle.opening.specs.Work.{SealedLengths, released}
 use Rattle.mode.proofs.Aes.{aes-lawful}
 use Rattle.mode.proofs.Blocks.{long-blocks}
 use Rattle.mode.proofs.Demand3.{cipher-length}
 use Rattle.mode.proofs.Finishes.{both, tag-within, held-front}
 use Rattle.mode.proofs.SealedLength.{unbroken-tag-long}
 use Rattle.mode.proofs.Answers.{refused-written, refused-output}
-use Rattle.calls.proofs.Outputs.{cleared}
-use Rattle.calls.proofs.Opening.{lengths-passed, tag-there, length-tag, tag-differs, tag-right}
-use Rattle.calls.proofs.open.open_into.Statement.{statement}
-use Rattle.calls.proofs.open.open_into.Tie as tie
+use Rattle.opening.proofs.Opening.{cleared}
+use Rattle.opening.proofs.Opening.{lengths-passed, tag-there, length-tag, tag-differs, tag-right}
+use Rattle.opening.proofs.open_into.Statement.{statement}
+use Rattle.opening.proofs.open_into.Tie as tie
 
 passed : (c : tie.After-open-text) → let a = c .before .before .before .before .before .args in
     KeyLength (a .key .now) × (SealedLengths (finishNamed (a .finish)) (a .sealed .now) × (length (a .sealed .now) - overhead (finishNamed (a .finish)) ≤ length (a .out .now)))

@@ -9,19 +9,20 @@ use native.Mathlib.Omega.{arith}
 use borrow.Author.Tests.{ltb-true, ltb-false}
 use lib.Dec.{ltb}
 use lib.ListN.{length, take, drop, getD, length-drop}
-use lib.Seq.{getD-append-seam, getD-append-add, getD-drop, drop-cons, split-at, take-at, take-all, length-take-le}
+use lib.Seq.{getD-append-seam, getD-append-add, getD-drop, drop-cons, split-at, take-at, drop-at, length-take-le}
 use Rattle.blocks.specs.Bytes.{zeros, same}
+use Rattle.blocks.proofs.Zeros.{zeros-append}
 use Rattle.mode.specs.Mode.{Finish, overhead, ciphertext, padded, blocksOf, ivPart, cipherPart, tagPart, unbrokenTag}
 use Rattle.mode.specs.Aes.{aes}
 use Rattle.mode.specs.Table.{Answer, refused, decide, firstRow}
-use Rattle.mode.specs.Calls.{Outcome, outcomeBy, unpadFrom, unpadded, notPadded, orEmpty, plaintextOf, openRows, openSealed, writtenOf, number}
+use Rattle.mode.specs.Calls.{Outcome, outcomeBy, unpadFrom, unpadded, notPadded, orEmpty, plaintextOf, openRows, openSealed, writtenOf, writtenGiven, number}
 use Rattle.mode.specs.Parallel.{Fits}
 use Rattle.mode.proofs.Blocks.{length-padded}
 use Rattle.mode.proofs.Bytes.{unpad-sound, unpad-complete}
 use Rattle.mode.proofs.Demand2.{sealed-lengths}
 use Rattle.mode.proofs.Demand3.{cipher-length}
 use Rattle.mode.proofs.Rows.{first-passes, first-refuses}
-use Rattle.calls.specs.Work.{openFirstRows, SealedLengths, endBy, messageEnd, released, writtenGiven}
+use Rattle.opening.specs.Work.{openFirstRows, SealedLengths, endBy, messageEnd, released}
 use Rattle.fips197.specs.Aes.{KeyLength}
 use Rattle.mode.proofs.Passed.{head-passed, tail-passed, key-passed}
 
@@ -201,3 +202,18 @@ module _ (t : Finish) (key sealed : List ℕ) (room : ℕ) where
     pub tag-right : same (tagGiven t key sealed) (tagPart t sealed) ≡ true → openSealed t aes key sealed room ≡ released (plaintextOf t aes key sealed) room
     unfolding decide openSealed released
     tag-right d = ap (λ (a : Answer (List ℕ)). outcomeBy a message room) (left-to-decide ∙ ap (λ (right : Bool). decide (byContents right) message) d)
+
+-- ---- the front of an output, worked on in place
+
+module _ (text out : List ℕ) (size left : ℕ) (l : length text ≡ size) (e : out ≡ text ++ zeros left) where
+  pub front-is : take size out ≡ text
+  front-is = ap (take size) e ∙ take-at text (zeros left) size l
+
+  -- cleared again
+  pub cleared : (new : List ℕ) → new ≡ zeros (length (take (size - 0) (drop 0 out))) → take 0 out ++ (new ++ drop (size - 0) (drop 0 out)) ≡ zeros (size + left)
+  cleared new en =
+      let z : size - 0 ≡ size = omega arith in
+      ap₂ (λ (x y : List ℕ). x ++ y)
+      (en ∙ ap (λ (k : ℕ). zeros (length (take k out))) z ∙ ap zeros (ap length front-is ∙ l))
+      (ap (λ (k : ℕ). drop k out) z ∙ ap (drop size) e ∙ drop-at text (zeros left) size l)
+      ∙ zeros-append size left

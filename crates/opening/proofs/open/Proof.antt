@@ -7,12 +7,12 @@ use Rattle.mode.specs.Mode.{finishNamed}
 use Rattle.mode.specs.Aes.{aes}
 use Rattle.mode.specs.Table.{firstRow}
 use Rattle.mode.specs.Calls.{openSealed, writtenOf}
-use Rattle.calls.specs.Work.{openFirstRows}
+use Rattle.opening.specs.Work.{openFirstRows}
 use Rattle.mode.proofs.Answers.{refused-written, refused-output}
-use Rattle.calls.proofs.Opening.{lengths-refused}
-use Rattle.calls.proofs.Outputs.{fresh}
-use Rattle.calls.proofs.open.open.Statement.{statement}
-use Rattle.calls.proofs.open.open.Tie as tie
+use Rattle.opening.proofs.Opening.{lengths-refused}
+use Rattle.blocks.proofs.Zeros.{fresh}
+use Rattle.opening.proofs.open.Statement.{statement}
+use Rattle.opening.proofs.open.Tie as tie
 
 clear-requires : tie.Need-clear-requires
 clear-requires c κs = search needs

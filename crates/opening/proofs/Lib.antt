@@ -1,0 +1,2 @@
+-- Opening: where the message ends, what is let out, what the rows leave to decide.
+mod Opening
