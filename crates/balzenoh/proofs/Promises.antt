@@ -15,7 +15,7 @@ use Rattle.mode.specs.Aes.{aes}
 use Rattle.mode.specs.Table.{Answer, refused, given, decide}
 use Rattle.mode.specs.Calls.{outcomeBy, Kind, seal, sealRows, openSealed, openRows, sealRun, sealRunRows, blocksOfRun, passFrom, runRecord, checkRun, checkRunRows, joinTwo, joinTwoRows, joinList, joinListRows, close, closeRows, test, testRows, jumpMask, jumpRows, sha1Text, sha1Rows, number, runAnswerOf, recordAnswerOf, tagAnswerOf}
 use Rattle.calls.specs.Layout.{kindOf}
-use Rattle.balzenoh.specs.Encoding.{decoded, recordsOf}
+use Rattle.record_bytes.specs.Encoding.{decoded, recordsOf}
 use Rattle.balzenoh.specs.Exports.{lentRows, lent, lentRecord, recordPart, sealRunBytes, notRecord, notRecords, joinBytes, joinListBytes, closeBytes, testBytes}
 use Rattle.balzenoh.specs.Promises.{OneOf, Promised, PromisedRun, Promises}
 

@@ -14,7 +14,7 @@ use Rattle.mode.specs.Aes.{aes}
 use Rattle.mode.specs.Table.{decide, tooShort}
 use Rattle.mode.specs.Calls.{Outcome, outcomeBy, sealRun, checkRun, joinTwo, joinList, close, test, number, runAnswerOf, recordAnswerOf, refusedRecord, tagAnswerOf}
 use Rattle.calls.specs.Layout.{kindOf}
-use Rattle.balzenoh.specs.Encoding.{encoded, decoded, recordsOf}
+use Rattle.record_bytes.specs.Encoding.{encoded, decoded, recordsOf}
 
 -- ---- what comes back, by the outcome of a call
 

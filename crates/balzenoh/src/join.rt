@@ -6,7 +6,7 @@ ghost use mathlib.Core.Path.{_≡_};
 ghost use Prim.Native.Nat.{_+_, _*_, _≤_};
 ghost use lib.ListN.{length, take, drop};
 ghost use Rattle.record_list.specs.Counted.{Counted};
-ghost use Rattle.balzenoh.specs.Encoding.{decoded, recordsOf};
+ghost use Rattle.record_bytes.specs.Encoding.{decoded, recordsOf};
 ghost use Rattle.balzenoh.specs.Exports.{Returned, lentRecord, joinBytes, joinListBytes};
 
 fn join_two(left: &[u8], right: &[u8]) -> RecordAnswer
@@ -18,8 +18,8 @@ fn join_two(left: &[u8], right: &[u8]) -> RecordAnswer
     if right.len() != 24 {
         return mode::refused(24);
     }
-    let l = crate::record::decode(left);
-    let r = crate::record::decode(right);
+    let l = record_bytes::decode(left);
+    let r = record_bytes::decode(right);
     l.join(r)
 }
 
@@ -38,7 +38,7 @@ fn record_at(records: &[u8], i: usize) -> RunRecord
     ensures { λ r. ⌜ r ≡ decoded (take 24 (drop (i * 24) (now (records .entry)))) ⌝ }
 {
     let at = i * 24;
-    crate::record::decode(&records[at..at + 24])
+    record_bytes::decode(&records[at..at + 24])
 }
 
 // The records one after the other, by the step of which the join of a list is the fold.

@@ -30,7 +30,7 @@ fn close_record(finish: Finish, key: &[u8], iv: &[u8], run: &[u8]) -> TagAnswer
             tag: [0u8; mode::finish::LONGEST_TAG],
         };
     }
-    let r = crate::record::decode(run);
+    let r = record_bytes::decode(run);
     tags::record::close(finish, key, iv, r)
 }
 
@@ -65,7 +65,7 @@ fn test_with(finish: Finish, key: &[u8], iv: &[u8], run: &[u8], tag: &[u8]) -> u
     if run.len() != 24 {
         return 24;
     }
-    let r = crate::record::decode(run);
+    let r = record_bytes::decode(run);
     tags::record::test(finish, key, iv, r, tag)
 }
 

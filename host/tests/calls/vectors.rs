@@ -185,12 +185,12 @@ fn the_library_meets_the_papers_tags() {
 #[test]
 fn the_program_in_python_seals_the_same_records() {
     let files = [
-        ("sealed.txt", Finish::Cipher, [128, 0]),
-        ("sealed256.txt", Finish::Cipher, [0, 128]),
-        ("sealed-sha1.txt", Finish::Sha1, [32, 32]),
+        ("cases/data/sealed.txt", Finish::Cipher, [128, 0]),
+        ("cases/data/sealed256.txt", Finish::Cipher, [0, 128]),
+        ("hash_cases/data/sealed.txt", Finish::Sha1, [32, 32]),
     ];
     for (name, finish, expected) in files {
-        let path = Path::new(env!("CARGO_MANIFEST_DIR")).join("../crates/cases/data").join(name);
+        let path = Path::new(env!("CARGO_MANIFEST_DIR")).join("../crates").join(name);
         let lines = fs::read_to_string(path).expect("sealed records");
         let lengths: Vec<_> = lines.lines().map(|line| same_record(finish, line)).collect();
         assert_eq!([16, 32].map(|length| lengths.iter().filter(|&&other| other == length).count()), expected, "{name}");

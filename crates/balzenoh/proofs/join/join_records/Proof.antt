@@ -8,8 +8,8 @@ use Rattle.mode.specs.Mode.{inWords}
 use Rattle.mode.specs.Calls.{blank}
 use Rattle.record_list.specs.Onto.{ontoOf}
 use Rattle.record_list.proofs.Loop.{Going, begins, keeps, turn, ends}
-use Rattle.balzenoh.specs.Encoding.{recordsOf}
-use Rattle.balzenoh.proofs.Records.{length-records, record-is}
+use Rattle.record_bytes.specs.Encoding.{recordsOf}
+use Rattle.record_bytes.proofs.Records.{length-records, record-is}
 use Rattle.balzenoh.proofs.join.join_records.Statement.{statement}
 use Rattle.balzenoh.proofs.join.join_records.Tie as tie
 

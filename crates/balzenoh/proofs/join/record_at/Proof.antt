@@ -4,7 +4,7 @@ use mathlib.Core.Path.{_≡_, ap, _∙_}
 use Prim.Native.Nat.{ℕ, _+_, _*_, _-_}
 use native.Mathlib.Omega.{arith}
 use lib.ListN.{take, drop}
-use Rattle.balzenoh.specs.Encoding.{decoded}
+use Rattle.record_bytes.specs.Encoding.{decoded}
 use Rattle.balzenoh.proofs.join.record_at.Statement.{statement}
 use Rattle.balzenoh.proofs.join.record_at.Tie as tie
 

@@ -7,8 +7,8 @@ use native.Mathlib.Omega.{arith}
 use lib.ListN.{length, drop}
 use Rattle.mode.specs.Table.{firstRow}
 use Rattle.blocks.proofs.Zeros.{drop-zeros}
-use Rattle.balzenoh.specs.Encoding.{encoded}
-use Rattle.balzenoh.proofs.Encoding.{length-encoded}
+use Rattle.record_bytes.specs.Encoding.{encoded}
+use Rattle.record_bytes.proofs.Encoding.{length-encoded}
 use Rattle.balzenoh.specs.Exports.{lentRows}
 use Rattle.balzenoh.proofs.Lent.{room-there, lent-refused, lent-given}
 use Rattle.balzenoh.proofs.record.give.Statement.{statement}

@@ -1,9 +1,9 @@
 -- The bytes as they stand.
 use borrow.Author.Needs.{needs}
 use mathlib.Core.Path.{refl}
-use Rattle.balzenoh.specs.Encoding.{numberBytes}
-use Rattle.balzenoh.proofs.record.numbers.Statement.{statement}
-use Rattle.balzenoh.proofs.record.numbers.Tie as tie
+use Rattle.record_bytes.specs.Encoding.{numberBytes}
+use Rattle.record_bytes.proofs.numbers.Statement.{statement}
+use Rattle.record_bytes.proofs.numbers.Tie as tie
 
 cast-t5 : tie.Need-cast-t5
 cast-t5 c = search needs

@@ -1,9 +1,9 @@
 -- Field by field.
 use borrow.Author.Needs.{needs}
 use Rattle.blocks.proofs.Bridge.{proper-by, words-of}
-use Rattle.balzenoh.specs.Encoding.{decoded}
-use Rattle.balzenoh.proofs.record.decode.Statement.{statement}
-use Rattle.balzenoh.proofs.record.decode.Tie as tie
+use Rattle.record_bytes.specs.Encoding.{decoded}
+use Rattle.record_bytes.proofs.decode.Statement.{statement}
+use Rattle.record_bytes.proofs.decode.Tie as tie
 
 shared-slice-read-number : tie.Need-shared-slice-read-number
 shared-slice-read-number c = search needs

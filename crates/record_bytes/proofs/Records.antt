@@ -6,7 +6,7 @@ use native.Mathlib.Omega.{arith}
 use lib.ListN.{length, getD, take, drop}
 use lib.Seq.{drop-drop}
 use Rattle.mode.specs.declared.RunRecord.{RunRecord}
-use Rattle.balzenoh.specs.Encoding.{decoded, firstRecords, recordsOf}
+use Rattle.record_bytes.specs.Encoding.{decoded, firstRecords, recordsOf}
 
 length-first : (n : ℕ) (b : List ℕ) → length (firstRecords n b) ≡ n
 unfolding firstRecords

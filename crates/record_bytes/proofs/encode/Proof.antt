@@ -1,8 +1,8 @@
 -- The two blocks, one over the end of the other.
 use borrow.Author.Needs.{needs}
-use Rattle.balzenoh.proofs.Encoding.{encoded-there}
-use Rattle.balzenoh.proofs.record.encode.Statement.{statement}
-use Rattle.balzenoh.proofs.record.encode.Tie as tie
+use Rattle.record_bytes.proofs.Encoding.{encoded-there}
+use Rattle.record_bytes.proofs.encode.Statement.{statement}
+use Rattle.record_bytes.proofs.encode.Tie as tie
 
 numbers-requires : tie.Need-numbers-requires
 numbers-requires c κs = search needs

@@ -10,7 +10,7 @@ use Rattle.blocks.specs.Words.{Proper, bytesOf, wordsOf}
 use Rattle.blocks.proofs.Chunks.{bytes-drop}
 use Rattle.blocks.proofs.Bridge.{block-bytesOf, bytes-words, words-bytes}
 use Rattle.mode.specs.declared.RunRecord.{RunRecord}
-use Rattle.balzenoh.specs.Encoding.{numberBytes, numberOf, encoded, decoded}
+use Rattle.record_bytes.specs.Encoding.{numberBytes, numberOf, encoded, decoded}
 
 -- ---- numbers
 

@@ -1,0 +1,2 @@
+-- Encoding: a run record as 24 bytes.
+pub mod Encoding
