@@ -1,14 +1,12 @@
 -- Bytes and words.
-use mathlib.Core.Path.{_≡_, sym, ap, ap₂, _∙_}
-use mathlib.Core.List.{List, [], _∷_, _++_}
-use Prim.Native.Nat.{ℕ, _+_, _*_, _-_, _≤_}
+use mathlib.Core.Path.{_≡_, sym, ap, _∙_}
+use mathlib.Core.List.{List, [], _∷_}
+use Prim.Native.Nat.{ℕ, _+_, _*_, _≤_}
 use native.Mathlib.Omega.{arith}
-use lib.ListN.{length, getD, take, drop, length-drop}
-use lib.Seq.{drop-drop, take-all}
-use Rattle.blocks.specs.Bytes.{zeros}
+use lib.ListN.{length, getD, take, drop}
+use lib.Seq.{drop-drop}
 use Rattle.blocks.specs.Num.{num, lowBytes}
-use Rattle.blocks.proofs.Tab.{tab-part, built}
-use Rattle.blocks.proofs.Zeros.{drop-zeros}
+use Rattle.blocks.proofs.Tab.{tab-part}
 use Rattle.sha1.specs.declared.Hash.{Hash}
 use Rattle.sha1.specs.Sha1.{digestOf, word}
 
@@ -30,11 +28,3 @@ word-read s at i h =
     let e : p ≡ p + 0 = omega arith in
     ap (λ (k : ℕ). num (getD s k 0 ∷ getD s (p + 1) 0 ∷ getD s (p + 2) 0 ∷ getD s (p + 3) 0 ∷ [])) e
     ∙ ap num (tab-part 4 p s (omega arith) ∙ ap (take 4) (sym (drop-drop (i * 4) at s)))
-
--- the rest of a text, copied into zeros
-pub rest-done : (text : List ℕ) (n i : ℕ) (r : List ℕ) → n ≤ length text → length text ≤ n + 128 → i ≤ length text - n → length text - n ≤ i
-    → r ≡ built (drop n text) (zeros 128) i → r ≡ drop n text ++ zeros (n + 128 - length text)
-unfolding built
-rest-done text n i r h l a b e =
-    let k : 128 - i ≡ n + 128 - length text = omega arith in
-    e ∙ ap₂ (λ (x y : List ℕ). x ++ y) (take-all i (drop n text) (omega (arith, length-drop n text))) (drop-zeros i 128 ∙ ap zeros k)

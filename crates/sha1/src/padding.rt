@@ -28,10 +28,7 @@ fn rest(text: &[u8], n: usize) -> [u8; 128]
     ensures { λ r. ⌜ r ≡ drop n (now (text .entry)) ++ zeros (n + 128 - length (now (text .entry))) ⌝ }
 {
     let mut r = [0u8; 128];
-    let left = text.len() - n;
-    for i in 0..left {
-        r[i] = text[n + i];
-    }
+    blocks::bytes::put(&mut r, 0, &text[n..]);
     r
 }
 
