@@ -5,10 +5,10 @@ use mathlib.Core.List.{List, [], _∷_, _++_}
 use mathlib.Core.Bool.{Bool, true, false, cond}
 use Prim.Native.Nat.{ℕ}
 use native.Mathlib.Omega.{arith}
-use lib.Dec.{T, ltb}
-use borrow.Author.Tests.{ltb-true}
+use lib.Dec.{T, eqb, ltb}
+use borrow.Author.Tests.{eq-eqb, ltb-true}
 use Rattle.mode.specs.Mode.{Cipher, inWords}
-use Rattle.mode.specs.Table.{Answer, refused, given, decide, tableOrder, inOrder, NoneHolds, Decides}
+use Rattle.mode.specs.Table.{Answer, refused, given, decide, tableOrder, openOrder, inOrder, NoneHolds, Decides}
 use Rattle.mode.specs.Calls.{Outcome, outcomeBy, seal, sealRows, openSealed, openRows, passFrom, runRecord, sealRun, sealRunRows, checkRun, checkRunRows, joined, joinTwo, joinTwoRows, joinList, joinListRows, closingTag, close, closeRows, test, testRows, jumpMask, jumpRows, sha1Text, sha1Rows}
 use Rattle.mode.specs.Demands.{Gives, Refuses, Answered, AnsweredInto, Demand1, Decided, DecidedInto, Demand2c}
 use Rattle.mode.proofs.Rows.{outcome-refused, outcome-given}
@@ -50,6 +50,24 @@ decides (row ∷ rows) a n e = by (row .1) refl e (decides rows a n)
 -- each number is returned if and only if its row's condition holds and no higher row's does
 first-row : {A : Type 0} (rows : List (ℕ × Bool)) (a : A) (n : ℕ) → (decide rows a ≡ refused n) ↔ Decides rows n
 first-row rows a n = (decides rows a n, λ d. rw (d .rows-are) (refuses (d .above) (d .below) a n (d .none-above)))
+
+-- whether no row has the number n
+abbrev pub lacks : ℕ → List (ℕ × Bool) → Bool
+lacks n [] = true
+lacks n (row ∷ rows) = cond (eqb (row .0) n) false (lacks n rows)
+
+-- where a number is returned that the last row alone has, it holds and none above it does
+pub last-row : {A : Type 0} (rows : List (ℕ × Bool)) (n : ℕ) (b : Bool) (a : A) → lacks n rows ≡ true → decide (rows ++ (n, b) ∷ []) a ≡ refused n → NoneHolds rows × (b ≡ true)
+unfolding decide
+last-row [] n true a l e = (tt, refl)
+last-row [] n false a l e = absurd (let z : _≡_ {A = ℕ} 0 1 = cc in omega arith)
+last-row (row ∷ rows) n b a l e = by (row .1) (eqb (row .0) n) refl refl l e (last-row rows n b a)
+  where
+    by : (t s : Bool) → row .1 ≡ t → eqb (row .0) n ≡ s → cond s false (lacks n rows) ≡ true → cond t (refused (row .0)) (decide (rows ++ (n, b) ∷ []) a) ≡ refused n
+        → (lacks n rows ≡ true → decide (rows ++ (n, b) ∷ []) a ≡ refused n → NoneHolds rows × (b ≡ true)) → NoneHolds (row ∷ rows) × (b ≡ true)
+    by t true p q l e rec = absurd (let z : _≡_ {A = ℕ} 0 1 = cc in omega arith)
+    by true false p q l e rec = absurd (let m : row .0 ≡ n = cc in let z = sym q ∙ eq-eqb (row .0) n m in let y : _≡_ {A = ℕ} 0 1 = cc in omega arith)
+    by false false p q l e rec = let h = rec l e in ((p, h .0), h .1)
 
 -- ---- outcomes
 
@@ -118,19 +136,19 @@ demand1 c =
 
 -- ---- demand 2 (c)
 
-decided : {A : Type 0} (rows : List (ℕ × Bool)) (a : A) → inOrder tableOrder rows ≡ true → Decided rows (decide rows a) a
-decided {A} rows a o =
+decided : {A : Type 0} (order : List ℕ) (rows : List (ℕ × Bool)) (a : A) → inOrder order rows ≡ true → Decided order rows (decide rows a) a
+decided {A} order rows a o =
     record {
       in-order = o;
       refuses = first-row rows a;
       gives = λ x. (given-rows rows a x, λ h. passed-rows rows a (h .0) ∙ ap (λ (y : A). given y) (h .1));
     }
 
-decided-into : {A : Type 0} (rows : List (ℕ × Bool)) (a : A) (bytes : List ℕ) (room : ℕ) → inOrder tableOrder rows ≡ true
-    → DecidedInto rows (outcomeBy (decide rows a) bytes room) a bytes room
-decided-into rows a bytes room o =
+decided-into : {A : Type 0} (order : List ℕ) (rows : List (ℕ × Bool)) (a : A) (bytes : List ℕ) (room : ℕ) → inOrder order rows ≡ true
+    → DecidedInto order rows (outcomeBy (decide rows a) bytes room) a bytes room
+decided-into order rows a bytes room o =
     record {
-      decided = rw (outcome-answer (decide rows a) bytes room) (decided rows a o);
+      decided = rw (outcome-answer (decide rows a) bytes room) (decided order rows a o);
       none-holds = λ h. outcome-gives (decide rows a) a bytes room (passed-rows rows a h);
       one-holds = λ n d. outcome-refuses (decide rows a) bytes room n ((first-row rows a n) .1 d);
     }
@@ -139,14 +157,14 @@ pub demand2c : (c : Cipher) → Demand2c c
 unfolding seal openSealed openRows sealRun runRecord passFrom checkRun joined joinTwo joinList closingTag close test jumpMask sha1Text inOrder
 demand2c c =
     record {
-      of-seal = λ t key iv message room. decided-into (sealRows t c key iv message room) _ _ room refl;
-      of-open = λ t key sealed room. decided-into (openRows t c key sealed room) _ _ room refl;
-      of-seal-run = λ key iv first kind bytes room. decided-into (sealRunRows c key iv first kind bytes room) _ _ room refl;
-      of-check-run = λ key iv first bytes. decided (checkRunRows c key iv first bytes) _ refl;
-      of-join = λ l r. decided (joinTwoRows inWords l r) _ refl;
-      of-join-list = λ rs. decided (joinListRows inWords rs) _ refl;
-      of-close = λ t key iv r. decided (closeRows inWords c key iv r) _ refl;
-      of-test = λ t key iv r tag. decided (testRows inWords t c key iv r tag) tt refl;
-      of-jump = λ mask distance room. decided-into (jumpRows mask distance room) _ _ room refl;
-      of-sha1 = λ text room. decided-into (sha1Rows text room) _ _ room refl;
+      of-seal = λ t key iv message room. decided-into tableOrder (sealRows t c key iv message room) _ _ room refl;
+      of-open = λ t key sealed room. decided-into openOrder (openRows t c key sealed room) _ _ room refl;
+      of-seal-run = λ key iv first kind bytes room. decided-into tableOrder (sealRunRows c key iv first kind bytes room) _ _ room refl;
+      of-check-run = λ key iv first bytes. decided tableOrder (checkRunRows c key iv first bytes) _ refl;
+      of-join = λ l r. decided tableOrder (joinTwoRows inWords l r) _ refl;
+      of-join-list = λ rs. decided tableOrder (joinListRows inWords rs) _ refl;
+      of-close = λ t key iv r. decided tableOrder (closeRows inWords c key iv r) _ refl;
+      of-test = λ t key iv r tag. decided tableOrder (testRows inWords t c key iv r tag) tt refl;
+      of-jump = λ mask distance room. decided-into tableOrder (jumpRows mask distance room) _ _ room refl;
+      of-sha1 = λ text room. decided-into tableOrder (sha1Rows text room) _ _ room refl;
     }

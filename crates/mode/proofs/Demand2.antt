@@ -1,27 +1,25 @@
--- DEMAND 2 (a), (b) and (d), proved; and the pre-authenticator that checking gives is the one that sealing gives.
+-- DEMAND 2 (a) and (b), proved; and the pre-authenticator that checking gives is the one that sealing gives.
 use mathlib.Core.Path.{_≡_, refl, sym, ap, ap₂, subst, _∙_}
-use mathlib.Core.Logic.{_⊎_, inl, inr}
 use mathlib.Core.List.{List, [], _∷_, _++_}
-use mathlib.Core.Option.{Option, some, none as no-message}
-use mathlib.Core.Bool.{Bool, true, false, not, _||_}
+use mathlib.Core.Option.{some}
+use mathlib.Core.Bool.{true, false}
 use Prim.Native.Nat.{ℕ, suc, _+_, _*_, _-_, _/_, _%_, _≤_}
 use native.Mathlib.Nat.{le-of-eq}
 use native.Mathlib.Omega.{arith}
 use lib.ListN.{length, drop, replicate, length-append}
 use lib.Seq.{length-take-le}
-use lib.Dec.{eqb, ltb}
-use borrow.Author.Tests.{eqb-true, eq-eqb, ltb-false, le-ltb, not-false}
+use borrow.Author.Tests.{ltb-false, le-ltb}
 use Rattle.blocks.specs.Bytes.{xorBytes, Bytes, Block, same, concat}
 use Rattle.blocks.proofs.Chunks.{bytes-take, bytes-drop}
 use Rattle.blocks.proofs.XorBytes.{block-xor, xorBytes-cancel}
 use Rattle.gf128.specs.Gf128.{timesX, jump}
 use Rattle.gf128.proofs.TimesX.{length-jump, block-timesX}
 use Rattle.fips197.specs.Aes.{KeyLength, Key}
-use Rattle.mode.specs.Mode.{Cipher, Lawful, Finish, LawfulFinish, overhead, plaintext, ciphertext, zeroBlock, encrypt, startMask, middletext, written, pass, unbroken, unbrokenTag, blocksOf, padded, ivPart, cipherPart, tagPart, sealedRecord, UnbrokenCheck}
+use Rattle.mode.specs.Mode.{Cipher, Lawful, Finish, LawfulFinish, overhead, plaintext, ciphertext, zeroBlock, encrypt, startMask, middletext, written, pass, unbroken, unbrokenTag, blocksOf, padded, ivPart, cipherPart, tagPart, sealedRecord}
 use Rattle.mode.specs.Table.{Answer, refused, given, decide, NoneHolds, tooLong, notSealed, zeroMask, longestMessage, longestSealed}
-use Rattle.mode.specs.Calls.{unpadded, notPadded, orEmpty, decrypted, plaintextOf, openRows, openSealed, seal, sealRows}
-use Rattle.mode.specs.Parallel.{checking, Fits}
-use Rattle.mode.specs.Demands.{Gives, NonzeroMask, SealedFrom, Demand2a, Demand2b, OpensSealed, Demand2d}
+use Rattle.mode.specs.Calls.{unpadded, decrypted, plaintextOf, messageOf, openRows, openSealed, seal, sealRows}
+use Rattle.mode.specs.Parallel.{Fits}
+use Rattle.mode.specs.Demands.{Gives, NonzeroMask, SealedFrom, Demand2a, Demand2b, OpensSealed}
 use Rattle.fips197.proofs.Keys.{is-key}
 use Rattle.mode.proofs.Rows.{not-too-long}
 use Rattle.mode.proofs.Decisions.{given-rows, passed-rows, outcome-answer, outcome-gives, outcome-given-bytes}
@@ -29,9 +27,10 @@ use Rattle.mode.proofs.SealedLength.{unbroken-tag-long, sealed-length}
 use Rattle.mode.proofs.Laws.{xor-long, pass-mask, preauthenticator-long}
 use Rattle.mode.proofs.Blocks.{length-padded, count-middle}
 use Rattle.mode.proofs.Runs.{is16}
-use Rattle.mode.proofs.Segments.{not-both}
 use Rattle.mode.proofs.Same.{same-true, same-self}
 use Rattle.mode.proofs.Demand3.{cipher-length}
+use Rattle.mode.proofs.Passed.{sealed-lengths, lengths-sealed}
+use Rattle.mode.proofs.Opened.{Found, given-found, refused-found, found-given, found-refused}
 use Rattle.mode.proofs.Halves.{first-block, second-block, first-back, second-back, start-block}
 use Rattle.mode.proofs.Bytes.{bytes-left, bytes-padded, AllBlocks, all-blocks-long, bytes-concat, length-concat, good-blocks, concat-blocks, blocks-concat, parts-of, parts-whole, unpad-sound, unpad-complete}
 
@@ -157,32 +156,6 @@ module _ (c : Cipher) (laws : Lawful c) (key : List ℕ) (kb : Key key) where
     unfolding unbroken
     unbroken-is bs = output-is bs mask0 zeroBlock
 
--- ---- lengths and answers
-
-pub or-false : (p q : Bool) → (p || q) ≡ false → (p ≡ false) × (q ≡ false)
-or-false true q e = not-both (sym e)
-or-false false q e = (refl, e)
-
-pub sealed-lengths : (t : Finish) (sealed : List ℕ) → notSealed t sealed ≡ false → Fits (checking t sealed)
-unfolding notSealed Fits
-sealed-lengths t sealed e =
-    let size = length sealed in
-    let rest = not (eqb ((size - overhead t) % 16) 0) in
-    let a = or-false (ltb size (16 + overhead t)) (ltb (longestSealed t) size || rest) e in
-    let b = or-false (ltb (longestSealed t) size) rest (a .1) in
-    (ltb-false size (16 + overhead t) (a .0), ltb-false (longestSealed t) size (b .0), eqb-true ((size - overhead t) % 16) 0 (not-false (eqb ((size - overhead t) % 16) 0) (b .1)))
-
-pub lengths-sealed : (t : Finish) (sealed : List ℕ) → Fits (checking t sealed) → notSealed t sealed ≡ false
-unfolding notSealed Fits
-lengths-sealed t sealed h =
-    let size = length sealed in
-    rw (le-ltb size (16 + overhead t) (h .0), le-ltb (longestSealed t) size (h .1), eq-eqb ((size - overhead t) % 16) 0 (h .2))
-
-found : (o : Option (List ℕ)) (m : List ℕ) → notPadded o ≡ false → orEmpty o ≡ m → o ≡ some m
-unfolding notPadded orEmpty
-found no-message m e p = not-both (sym e)
-found (some n) m e p = ap (λ (l : List ℕ). some l) p
-
 -- ---- sealing
 
 -- what is known where a record is given
@@ -211,22 +184,18 @@ module _ (t : Finish) (c : Cipher) (key iv message : List ℕ) (nz : NonzeroMask
   seals-to r e = (seal-gives (length r) (le-of-eq (ap length e))) .answers ∙ ap (λ (x : List ℕ). given x) e
 
 module _ (t : Finish) (c : Cipher) (laws : Lawful c) (key : List ℕ) (kb : Key key) where
-  -- a message that is opened was sealed
-  open-sound : (sealed m : List ℕ) (room : ℕ) → Bytes sealed → (openSealed t c key sealed room) .answer ≡ given m → SealedFrom t c key sealed m
-  unfolding openSealed openRows
-  open-sound sealed m room sb e =
+  -- a message that opening finds was sealed
+  found-sealed : (sealed m : List ℕ) → Bytes sealed → Found t c key sealed m → SealedFrom t c key sealed m
+  found-sealed sealed m sb f =
       record {
         iv = iv;
         iv-block = ib;
         m-bytes = bytes-left-of (subst Bytes (sym padded-is) (bytes-concat bs bs-good));
-        seals = seals-to t c key iv m (rows .0 .1 .1 .0) (kb .size) (ib .long) m-fits sealed whole;
+        seals = seals-to t c key iv m (f .masked) (kb .size) (ib .long) m-fits sealed whole;
       }
     where
-      rows : NoneHolds (openRows t c key sealed room) × (orEmpty (unpadded (plaintextOf t c key sealed)) ≡ m)
-      rows = given-rows (openRows t c key sealed room) (orEmpty (unpadded (plaintextOf t c key sealed))) m (sym (outcome-answer (decide (openRows t c key sealed room) (orEmpty (unpadded (plaintextOf t c key sealed)))) _ room) ∙ e)
-
       lens : (16 + overhead t ≤ length sealed) × (length sealed ≤ longestSealed t) × ((length sealed - overhead t) % 16 ≡ 0)
-      lens = unfold Fits in (sealed-lengths t sealed (rows .0 .1 .0))
+      lens = unfold Fits in (sealed-lengths t sealed (f .length-right))
 
       iv : List ℕ
       iv = ivPart sealed
@@ -254,7 +223,7 @@ module _ (t : Finish) (c : Cipher) (laws : Lawful c) (key : List ℕ) (kb : Key 
 
       padded-is : padded m ≡ concat (openedBlocks c laws key kb (blocksOf (cipherPart t sealed)) (startMask c key (ivPart sealed)))
       padded-is =
-          unpad-sound 16 (plaintextOf t c key sealed) m (unfold unpadded in (found (unpadded (plaintextOf t c key sealed)) m (rows .0 .1 .1 .1 .1 .1 .0) (rows .1)))
+          unpad-sound 16 (plaintextOf t c key sealed) m (unfold unpadded in (f .message))
           ∙ plain-is
         where
           plain-is : plaintextOf t c key sealed ≡ concat (openedBlocks c laws key kb (blocksOf (cipherPart t sealed)) (startMask c key (ivPart sealed)))
@@ -275,7 +244,7 @@ module _ (t : Finish) (c : Cipher) (laws : Lawful c) (key : List ℕ) (kb : Key 
       tag-is : unbrokenTag t c plaintext key iv bs ≡ tagPart t sealed
       tag-is =
           sym (same-tag c laws key kb iv ib t bs bs-good) ∙ ap (unbrokenTag t c ciphertext key iv) back
-          ∙ same-true (unbrokenTag t c ciphertext key iv cs) (tagPart t sealed) (not-false (same (unbrokenTag t c ciphertext key iv cs) (tagPart t sealed)) (rows .0 .1 .1 .1 .1 .0))
+          ∙ same-true (unbrokenTag t c ciphertext key iv cs) (tagPart t sealed) (f .tag-right)
 
       m-fits : length m ≤ longestMessage
       m-fits =
@@ -290,11 +259,9 @@ module _ (t : Finish) (c : Cipher) (laws : Lawful c) (key : List ℕ) (kb : Key 
           ∙ ap₂ (λ (x y : List ℕ). ivPart sealed ++ x ++ y) text-is tag-is
           ∙ parts-whole t sealed (omega (arith, lens .0)))
 
-  -- what was sealed is opened
-  open-complete : LawfulFinish t c → (sealed m : List ℕ) (room : ℕ) → length (cipherPart t sealed) ≤ room → SealedFrom t c key sealed m → (openSealed t c key sealed room) .answer ≡ given m
-  unfolding orEmpty
-  open-complete finish sealed m room h f =
-      subst (λ (r : List ℕ). length (cipherPart t r) ≤ room → (openSealed t c key r room) .answer ≡ given m) (g .1) by h
+  -- what was sealed opening finds
+  sealed-found : LawfulFinish t c → (sealed m : List ℕ) → SealedFrom t c key sealed m → Found t c key sealed m
+  sealed-found finish sealed m f = subst (λ (r : List ℕ). Found t c key r m) (g .1) by
     where
       iv : List ℕ
       iv = f .iv
@@ -381,14 +348,8 @@ module _ (t : Finish) (c : Cipher) (laws : Lawful c) (key : List ℕ) (kb : Key 
       message-is : unpadded (plaintextOf t c key r) ≡ some m
       message-is = ap unpadded plain-is ∙ (unfold unpadded in (unpad-complete 16 m (rw (length-padded m) (omega arith))))
 
-      by : length (cipherPart t r) ≤ room → (openSealed t c key r room) .answer ≡ given m
-      by h =
-          unfold openSealed in
-          (outcome-answer (decide (openRows t c key r room) (orEmpty (unpadded (plaintextOf t c key r)))) _ room
-          ∙ passed-rows (openRows t c key r room) (orEmpty (unpadded (plaintextOf t c key r)))
-          (unfold openRows notPadded in
-          (is-key key (kb .size), (fine, (masked, (le-ltb room (length (cipherPart t r)) h, (ap not tag-same, (ap notPadded message-is, tt)))))))
-          ∙ ap (λ (o : Option (List ℕ)). given (orEmpty o)) message-is)
+      by : Found t c key r m
+      by = record { key-right = is-key key (kb .size); length-right = fine; masked = masked; tag-right = tag-same; message = message-is }
 
 -- DEMAND 2 (a)
 pub demand2a : (t : Finish) (c : Cipher) → Lawful c → LawfulFinish t c → Demand2a t c
@@ -404,71 +365,27 @@ demand2a t c laws finish =
 pub demand2b : (t : Finish) (c : Cipher) → Lawful c → LawfulFinish t c → Demand2b t c
 demand2b t c laws finish =
     record {
-      only-sealed = λ key sealed m room kb sb e. (open-sound t c laws key kb sealed m room sb e, whole key sealed m room e);
-      all-sealed = λ key sealed m room kb h f. whole key sealed m room (open-complete t c laws key kb finish sealed m room h f);
+      only-sealed = λ key sealed m room kb sb e.
+        let f = given-found t c key sealed room m e in
+        (found-sealed t c laws key kb sealed m sb (f .0), f .1, whole key sealed m room e);
+      all-sealed = λ key sealed m room kb f h. whole key sealed m room (found-given t c key sealed room m (sealed-found t c laws key kb finish sealed m f) h);
+      no-room = λ key sealed m room kb f h. found-refused t c key sealed room m (sealed-found t c laws key kb finish sealed m f) h;
+      only-no-room = λ key sealed room kb sb e.
+        let f = refused-found t c key sealed room e in
+        (f .0, (found-sealed t c laws key kb sealed (f .0) sb (f .1 .0), f .1 .1));
     }
   where
     whole : (key sealed m : List ℕ) (room : ℕ) → (openSealed t c key sealed room) .answer ≡ given m → Gives (openSealed t c key sealed room) m m room
-    whole key sealed m room e =
-        unfold openSealed in ((outcome-given-bytes (openRows t c key sealed room) (orEmpty (unpadded (plaintextOf t c key sealed))) m room e) .1)
+    whole key sealed m room e = unfold openSealed in ((outcome-given-bytes (openRows t c key sealed room) (messageOf t c key sealed) m room e) .1)
 
 -- what sealing gave is opened again
 pub opens-sealed : (t : Finish) (c : Cipher) → Lawful c → LawfulFinish t c → OpensSealed t c
 opens-sealed t c laws finish key iv message r room lent kb ib mb e h =
     let g = sealing-given t c key iv message r room e in
-    let n : length r ≡ 16 * (length message / 16 + 1) + overhead t = ap length (sym (g .1)) ∙ (demand2a t c laws finish) .long key iv message (kb .size) (ib .long) in
-    demand2b t c laws finish .all-sealed key r message lent kb (rw (cipher-length t r (omega arith)) h)
+    demand2b t c laws finish .all-sealed key r message lent kb
     (record {
       iv = iv;
       iv-block = ib;
       m-bytes = mb;
       seals = seals-to t c key iv message (g .0 .1 .1 .1 .0) (kb .size) (ib .long) (message-fits message (g .0 .1 .1 .0)) r (g .1);
-    })
-
--- DEMAND 2 (d)
-pub demand2d : (t : Finish) (c : Cipher) → Demand2d t c
-unfolding UnbrokenCheck
-demand2d t c key sealed nz kl ns = (to, from)
-  where
-    tag : List ℕ
-    tag = unbrokenTag t c ciphertext key (ivPart sealed) (blocksOf (cipherPart t sealed))
-
-    room : ℕ
-    room = length (cipherPart t sealed)
-
-    m : List ℕ
-    m = orEmpty (unpadded (plaintextOf t c key sealed))
-
-    answer-is : (openSealed t c key sealed room) .answer ≡ decide (openRows t c key sealed room) m
-    answer-is = unfold openSealed in (outcome-answer (decide (openRows t c key sealed room) m) _ room)
-
-    -- rows 1, 3, 10 and 5 do not hold
-    rest : decide (openRows t c key sealed room) m ≡ decide ((6, not (same tag (tagPart t sealed))) ∷ (7, notPadded (unpadded (plaintextOf t c key sealed))) ∷ []) m
-    rest = unfold openRows decide in rw (is-key key kl, ns, nz, le-ltb room room (omega arith))
-
-    to : tag ≡ tagPart t sealed
-        → ((m : List ℕ) × ((openSealed t c key sealed room) .answer ≡ given m)) ⊎ ((openSealed t c key sealed room) .answer ≡ refused 7)
-    to e = by (notPadded (unpadded (plaintextOf t c key sealed))) refl
-      where
-        right : same tag (tagPart t sealed) ≡ true
-        right = ap (same tag) (sym e) ∙ same-self tag
-
-        by : (holds : Bool) → notPadded (unpadded (plaintextOf t c key sealed)) ≡ holds
-            → ((m : List ℕ) × ((openSealed t c key sealed room) .answer ≡ given m)) ⊎ ((openSealed t c key sealed room) .answer ≡ refused 7)
-        by true p = inr (answer-is ∙ rest ∙ (unfold decide in rw (right, p)))
-        by false p = inl (m, answer-is ∙ rest ∙ (unfold decide in rw (right, p)))
-
-    right-tag : (right : Bool) → same tag (tagPart t sealed) ≡ right
-        → ((m : List ℕ) × ((openSealed t c key sealed room) .answer ≡ given m)) ⊎ ((openSealed t c key sealed room) .answer ≡ refused 7) → tag ≡ tagPart t sealed
-    right-tag true p h = same-true tag (tagPart t sealed) p
-    right-tag false p (inl h) =
-        let six : (openSealed t c key sealed room) .answer ≡ refused 6 = answer-is ∙ rest ∙ (unfold decide in rw p) in
-        let e : given (h .0) ≡ refused 6 = sym (h .1) ∙ six in
-        absurd (let z : _≡_ {A = ℕ} 0 1 = cc in omega arith)
-    right-tag false p (inr h) =
-        let six : (openSealed t c key sealed room) .answer ≡ refused 6 = answer-is ∙ rest ∙ (unfold decide in rw p) in
-        let e : _≡_ {A = Answer (List ℕ)} (refused 7) (refused 6) = sym h ∙ six in
-        absurd (let z : _≡_ {A = ℕ} 7 6 = cc in omega arith)
-
-    from : ((m : List ℕ) × ((openSealed t c key sealed room) .answer ≡ given m)) ⊎ ((openSealed t c key sealed room) .answer ≡ refused 7) → tag ≡ tagPart t sealed
-    from h = right-tag (same tag (tagPart t sealed)) refl h
+    }) h

@@ -20,8 +20,9 @@ pub mod Segments
 pub mod Join
 pub mod Powers
 pub mod Records
-pub mod Demand2
 pub mod Demand3
+pub mod Opened
+pub mod Demand2
 pub mod Forms
 pub mod ZeroMask
 pub mod NoDifference

@@ -1,15 +1,16 @@
 -- What is known where no row of the table holds.
 use mathlib.Core.Path.{_≡_, refl}
-use mathlib.Core.Bool.{Bool, true, false}
+use mathlib.Core.Bool.{Bool, true, false, not, _||_}
 use mathlib.Core.List.{List, _∷_}
-use Prim.Native.Nat.{ℕ, suc, _+_, _≤_}
+use Prim.Native.Nat.{ℕ, suc, _+_, _-_, _%_, _≤_}
 use native.Mathlib.Omega.{arith}
 use lib.Dec.{eqb, ltb}
 use lib.ListN.{length}
-use borrow.Author.Tests.{eqb-true, ltb-false, not-false}
+use borrow.Author.Tests.{eqb-true, eq-eqb, ltb-false, le-ltb, not-false}
 use Rattle.fips197.specs.Aes.{KeyLength}
-use Rattle.mode.specs.Mode.{Finish}
-use Rattle.mode.specs.Table.{firstRow, limit, notKey, not16, notTag, beyond}
+use Rattle.mode.specs.Mode.{Finish, overhead}
+use Rattle.mode.specs.Table.{firstRow, limit, longestSealed, notKey, not16, notTag, notSealed, beyond}
+use Rattle.mode.specs.Parallel.{checking, Fits}
 use Rattle.fips197.proofs.Keys.{has-key}
 
 -- the head of rows that do not hold, and the rows after it
@@ -55,3 +56,24 @@ run-within key iv b first count rows e =
     within-limit first count rows
     (tail-passed 2 b ((4, beyond first count) ∷ rows)
     (tail-passed 1 (not16 iv) ((3, b) ∷ (4, beyond first count) ∷ rows) (tail-passed 0 (notKey key) ((2, not16 iv) ∷ (3, b) ∷ (4, beyond first count) ∷ rows) e)))
+
+pub or-false : (p q : Bool) → (p || q) ≡ false → (p ≡ false) × (q ≡ false)
+or-false true q e = absurd (let z : _≡_ {A = ℕ} 0 1 = cc in omega arith)
+or-false false q e = (refl, e)
+
+-- 3 of a sealed record does not hold
+pub sealed-lengths : (t : Finish) (sealed : List ℕ) → notSealed t sealed ≡ false → Fits (checking t sealed)
+unfolding notSealed Fits
+sealed-lengths t sealed e =
+    let size = length sealed in
+    let rest = not (eqb ((size - overhead t) % 16) 0) in
+    let a = or-false (ltb size (16 + overhead t)) (ltb (longestSealed t) size || rest) e in
+    let b = or-false (ltb (longestSealed t) size) rest (a .1) in
+    (ltb-false size (16 + overhead t) (a .0), ltb-false (longestSealed t) size (b .0), eqb-true ((size - overhead t) % 16) 0 (not-false (eqb ((size - overhead t) % 16) 0) (b .1)))
+
+-- and where its length is right, it does not
+pub lengths-sealed : (t : Finish) (sealed : List ℕ) → Fits (checking t sealed) → notSealed t sealed ≡ false
+unfolding notSealed Fits
+lengths-sealed t sealed h =
+    let size = length sealed in
+    rw (le-ltb size (16 + overhead t) (h .0), le-ltb (longestSealed t) size (h .1), eq-eqb ((size - overhead t) % 16) 0 (h .2))

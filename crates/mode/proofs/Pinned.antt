@@ -28,11 +28,11 @@ use Rattle.mode.specs.Demands.{IsAes, Aes128And256, KeyInStepOne, TwoFin
 use Rattle.fips197.proofs.Keys.{is-key, isnt-key, has-key}
 use Rattle.mode.proofs.Keys.{keyBlock-short, keyBlock-first}
 use Rattle.mode.proofs.Rows.{is-whole}
-use Rattle.mode.proofs.Passed.{has-16}
+use Rattle.mode.proofs.Passed.{has-16, sealed-lengths}
 use Rattle.mode.proofs.Same.{same-true}
 use Rattle.mode.proofs.InWords.{block-zero}
 use Rattle.mode.proofs.ZeroMask.{key-not-zero}
-use Rattle.mode.proofs.Demand2.{sealing-given, message-fits, sealed-lengths}
+use Rattle.mode.proofs.Demand2.{sealing-given, message-fits}
 
 -- ---- what may be cut
 
@@ -123,16 +123,20 @@ pub sealed-else : (t : Finish) (c : Cipher) → Demand2a t c → (key iv message
     → Gives (seal t c key iv message room) (sealedRecord t c key iv message) (sealedRecord t c key iv message) room
 sealed-else t c d = d .seals
 
-pub checked-else : (t : Finish) (c : Cipher) → Demand2d t c → (key sealed : List ℕ) → zeroMask c key (ivPart sealed) ≡ false → KeyLength key → notSealed t sealed ≡ false
-    → UnbrokenCheck t c key sealed → (openSealed t c key sealed (length (cipherPart t sealed))) .answer ≡ refused 6 → ⊥
-checked-else t c d key sealed z hk hs u six = by ((d key sealed z hk hs) .0 u)
+pub checked-else : (t : Finish) (c : Cipher) → Demand2d t c → (key sealed : List ℕ) (room : ℕ) → zeroMask c key (ivPart sealed) ≡ false → KeyLength key → notSealed t sealed ≡ false
+    → UnbrokenCheck t c key sealed → (openSealed t c key sealed room) .answer ≡ refused 6 → ⊥
+checked-else t c d key sealed room z hk hs u six = by ((d .lent-any key sealed room z hk hs) .0 u)
   where
     answer : Answer (List ℕ)
-    answer = (openSealed t c key sealed (length (cipherPart t sealed))) .answer
+    answer = (openSealed t c key sealed room) .answer
 
-    by : ((m : List ℕ) × (answer ≡ given m)) ⊎ (answer ≡ refused 7) → ⊥
+    not-six : (n : ℕ) → (n ≡ 6 → ⊥) → answer ≡ refused n → ⊥
+    not-six n h s = let e : _≡_ {A = Answer (List ℕ)} (refused n) (refused 6) = sym s ∙ six in h (cc)
+
+    by : ((m : List ℕ) × (answer ≡ given m)) ⊎ ((answer ≡ refused 7) ⊎ (answer ≡ refused 5)) → ⊥
     by (inl g) = let e : refused 6 ≡ given (g .0) = sym six ∙ g .1 in let z : _≡_ {A = ℕ} 0 1 = cc in omega arith
-    by (inr s) = let e : _≡_ {A = Answer (List ℕ)} (refused 6) (refused 7) = sym six ∙ s in let z : _≡_ {A = ℕ} 6 7 = cc in omega arith
+    by (inr (inl s)) = not-six 7 (λ e. omega arith) s
+    by (inr (inr s)) = not-six 5 (λ e. omega arith) s
 
 pub cut-else : (c : Cipher) (m : Calls) → Demand3 c m → (s : Setting) → zeroMask c (s .key) (ivOf (s .work)) ≡ false → WellFormed s
     → (calls : List Call) → EachCall m s Allowed (start s) calls → Agrees c m s calls (afterAll m s (start s) calls)
@@ -215,9 +219,9 @@ module _ (t : Finish) (c : Cipher) (b : AsBefore c) (key iv : List ℕ) where
       (decide
       ((1, notKey key)
       ∷ (3, notSealed t sealed)
-      ∷ (5, tooShort room (length (cipherPart t sealed)))
       ∷ (6, not (same (unbrokenTag t c ciphertext key (ivPart sealed) (blocksOf (cipherPart t sealed))) (tagPart t sealed)))
       ∷ (7, notPadded (unpadded (plaintextOf t c key sealed)))
+      ∷ (5, tooShort room (length message))
       ∷ [])
       message) message room
   unfolding without openRows

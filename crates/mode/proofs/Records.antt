@@ -26,7 +26,8 @@ use Rattle.mode.proofs.Runs.{is16}
 use Rattle.mode.proofs.Bytes.{AllBlocks, run-blocks, blocks-concat, length-concat}
 use Rattle.mode.specs.Demands.{CheckedAsSealed, ListWithin}
 use Rattle.mode.proofs.Decisions.{given-rows, passed-rows}
-use Rattle.mode.proofs.Demand2.{sealedBlocks, same-preauthenticator, sealed-good, output-is, length-sealed, or-false}
+use Rattle.mode.proofs.Demand2.{sealedBlocks, same-preauthenticator, sealed-good, output-is, length-sealed}
+use Rattle.mode.proofs.Passed.{or-false}
 use Rattle.mode.proofs.Halves.{start-block}
 
 -- joining is independent of grouping

@@ -197,21 +197,24 @@ module _ (t : Finish) (c : Cipher) where
   unfoldable pub plaintextOf : List ℕ → List ℕ → List ℕ
   plaintextOf key sealed = decrypted c key (blocksOf (cipherPart t sealed)) (startMask c key (ivPart sealed))
 
+  -- the message of a record whose plaintext is padded
+  abbrev pub messageOf : List ℕ → List ℕ → List ℕ
+  messageOf key sealed = orEmpty (unpadded (plaintextOf key sealed))
+
+  -- Ticket P6: row 5 compares the output with the message, and comes after 7.
   unfoldable pub openRows : List ℕ → List ℕ → ℕ → List (ℕ × Bool)
   openRows key sealed room =
       (1, notKey key)
       ∷ (3, notSealed t sealed)
       ∷ (10, zeroMask c key (ivPart sealed))
-      ∷ (5, tooShort room (length (cipherPart t sealed)))
       ∷ (6, not (same (unbrokenTag t c ciphertext key (ivPart sealed) (blocksOf (cipherPart t sealed))) (tagPart t sealed)))
       ∷ (7, notPadded (unpadded (plaintextOf key sealed)))
+      ∷ (5, tooShort room (length (messageOf key sealed)))
       ∷ []
 
   -- OPEN a sealed record: the answer is the message
   unfoldable pub openSealed : List ℕ → List ℕ → ℕ → Outcome (List ℕ)
-  openSealed key sealed room =
-      let message = orEmpty (unpadded (plaintextOf key sealed)) in
-      outcomeBy (decide (openRows key sealed room) message) message room
+  openSealed key sealed room = outcomeBy (decide (openRows key sealed room) (messageOf key sealed)) (messageOf key sealed) room
 
 -- ---- masks
 

@@ -20,8 +20,9 @@ use Rattle.fips197.specs.Aes.{KeyLength, Key}
 use Rattle.fips197.specs.Cipher.{cipher, invCipher, afterRound}
 use Rattle.sha1.specs.Sha1.{sha1}
 use Rattle.mode.specs.Mode.{Cipher, Source, plaintext, ciphertext, Pass, Form, RunRecord, inWords, ByteRecord, inBytes, blocksOf, padded, zeroBlock, keyBlock, startMask, encrypt, pass, Finish, overhead, LawfulFinish, byCipher, bySha1, unbroken, unbrokenTag, recordOf, ivPart, cipherPart, tagPart, sealedRecord, UnbrokenCheck}
-use Rattle.mode.specs.Table.{Answer, refused, given, decide, tableOrder, inOrder, NoneHolds, Decides, apart, notSealed, notWhole, zeroMask, limit, longestMessage}
+use Rattle.mode.specs.Table.{Answer, refused, given, decide, tableOrder, openOrder, inOrder, NoneHolds, Decides, apart, notSealed, notWhole, zeroMask, limit, longestMessage}
 use Rattle.mode.specs.Calls.{Outcome, outcomeBy, Kind, blocksOfRun, unalignedRun, seal, sealRows, openSealed, openRows, unpadded, orEmpty, plaintextOf, passFrom, runRecord, sealRun, sealRunRows, checkRun, checkRunRows, joinTwo, joinTwoRows, joinList, joinListRows, joinedAll, closingTag, close, closeRows, test, testRows, jumpMask, jumpRows, sha1Rows, sha1Text, Calls, callsOf}
+use Rattle.mode.specs.OpenBefore.{openBefore}
 use Rattle.mode.specs.Parallel.{Work, sealing, checking, sourceOf, finishOf, ivOf, allBlocks, Setting, WellFormed, Run, Segment, recorded, recordIn, bytesIn, isRecorded, blocksIn, segment, Call, runAt, joinPair, joinMany, consecutive, recordsAt, Allowed, start, roomOf, runOutcome, answerOf, afterAll, EachCall}
 
 -- ---- THE CIPHER is FIPS 197's: AES-128 under a key of 16 bytes, AES-256 under one of 32
@@ -116,8 +117,8 @@ pub record Demand2a (t : Finish) (c : Cipher) : Type 0 where
   pub long : (key iv message : List ℕ) → KeyLength key → length iv ≡ 16
       → length (sealedRecord t c key iv message) ≡ 16 * (length message / 16 + 1) + overhead t
 
--- ---- DEMAND 2 (b). Opening gives the message m, its length, and m followed by zeros, exactly where m was sealed to that very record. It gives
--- no other message, whatever was lent; and with as much output as there is ciphertext it gives m.
+-- ---- DEMAND 2 (b). Opening gives the message m, its length, and m followed by zeros, exactly where m was sealed to that very record and the
+-- output is as long as m, or longer (ticket P6). Where m was sealed to it and less was lent it gives 5, and 5 nowhere else.
 
 -- sealing the message m under some IV, with room for this record, is not refused and gives this very record
 pub record SealedFrom (t : Finish) (c : Cipher) (key sealed m : List ℕ) : Type 0 where
@@ -128,21 +129,26 @@ pub record SealedFrom (t : Finish) (c : Cipher) (key sealed m : List ℕ) : Type
 
 pub record Demand2b (t : Finish) (c : Cipher) : Type 0 where
   pub only-sealed : (key sealed m : List ℕ) (room : ℕ) → Key key → Bytes sealed → (openSealed t c key sealed room) .answer ≡ given m
-      → SealedFrom t c key sealed m × Gives (openSealed t c key sealed room) m m room
-  pub all-sealed : (key sealed m : List ℕ) (room : ℕ) → Key key → length (cipherPart t sealed) ≤ room → SealedFrom t c key sealed m
+      → SealedFrom t c key sealed m × (length m ≤ room) × Gives (openSealed t c key sealed room) m m room
+  pub all-sealed : (key sealed m : List ℕ) (room : ℕ) → Key key → SealedFrom t c key sealed m → length m ≤ room
       → Gives (openSealed t c key sealed room) m m room
+  pub no-room : (key sealed m : List ℕ) (room : ℕ) → Key key → SealedFrom t c key sealed m → room < length m
+      → Refuses (openSealed t c key sealed room) 5 room
+  pub only-no-room : (key sealed : List ℕ) (room : ℕ) → Key key → Bytes sealed → (openSealed t c key sealed room) .answer ≡ refused 5
+      → (m : List ℕ) × (SealedFrom t c key sealed m × (room < length m))
 
--- ---- DEMAND 2 (c). The refusals are the table's: the rows of each call stand in its order, a number is returned exactly where its row holds
--- and none above it does, and the answer is given exactly where none holds. Beside each call's rows stands what it then gives, by the formulas.
+-- ---- DEMAND 2 (c). The refusals are the table's: the rows of each call stand in its order, those of opening in ticket P6's; a number is returned
+-- exactly where its row holds and none above it does, and the answer is given exactly where none holds. Beside each call's rows stands what it
+-- then gives, by the formulas.
 
-pub record Decided {A : Type 0} (rows : List (ℕ × Bool)) (answer : Answer A) (a : A) : Type 0 where
-  pub in-order : inOrder tableOrder rows ≡ true
+pub record Decided {A : Type 0} (order : List ℕ) (rows : List (ℕ × Bool)) (answer : Answer A) (a : A) : Type 0 where
+  pub in-order : inOrder order rows ≡ true
   pub refuses : (n : ℕ) → (answer ≡ refused n) ↔ Decides rows n
   pub gives : (x : A) → (answer ≡ given x) ↔ (NoneHolds rows × (a ≡ x))
 
 -- the same of a call that writes
-pub record DecidedInto {A : Type 0} (rows : List (ℕ × Bool)) (o : Outcome A) (a : A) (bytes : List ℕ) (room : ℕ) : Type 0 where
-  pub decided : Decided rows (o .answer) a
+pub record DecidedInto {A : Type 0} (order : List ℕ) (rows : List (ℕ × Bool)) (o : Outcome A) (a : A) (bytes : List ℕ) (room : ℕ) : Type 0 where
+  pub decided : Decided order rows (o .answer) a
   pub none-holds : NoneHolds rows → Gives o a bytes room
   pub one-holds : (n : ℕ) → Decides rows n → Refuses o n room
 
@@ -164,38 +170,42 @@ module _ (c : Cipher) where
 
   pub record Demand2c : Type 0 where
     pub of-seal : (t : Finish) (key iv message : List ℕ) (room : ℕ)
-        → DecidedInto (sealRows t c key iv message room) (seal t c key iv message room) (sealedRecord t c key iv message) (sealedRecord t c key iv message) room
+        → DecidedInto tableOrder (sealRows t c key iv message room) (seal t c key iv message room) (sealedRecord t c key iv message) (sealedRecord t c key iv message) room
     pub of-open : (t : Finish) (key sealed : List ℕ) (room : ℕ)
-        → DecidedInto (openRows t c key sealed room) (openSealed t c key sealed room) (orEmpty (unpadded (plaintextOf t c key sealed))) (orEmpty (unpadded (plaintextOf t c key sealed))) room
+        → DecidedInto openOrder (openRows t c key sealed room) (openSealed t c key sealed room) (orEmpty (unpadded (plaintextOf t c key sealed))) (orEmpty (unpadded (plaintextOf t c key sealed))) room
     pub of-seal-run : (key iv : List ℕ) (first : ℕ) (kind : Kind) (bytes : List ℕ) (room : ℕ)
-        → DecidedInto (sealRunRows c key iv first kind bytes room) (sealRun inWords c key iv first kind bytes room)
+        → DecidedInto tableOrder (sealRunRows c key iv first kind bytes room) (sealRun inWords c key iv first kind bytes room)
         (stepTwoRecord plaintext key iv first (blocksOfRun kind bytes)) ((stepTwo plaintext key iv first (blocksOfRun kind bytes)) .output) room
     pub of-check-run : (key iv : List ℕ) (first : ℕ) (bytes : List ℕ)
-        → Decided (checkRunRows c key iv first bytes) (checkRun inWords c key iv first bytes) (stepTwoRecord ciphertext key iv first (blocksOf bytes))
+        → Decided tableOrder (checkRunRows c key iv first bytes) (checkRun inWords c key iv first bytes) (stepTwoRecord ciphertext key iv first (blocksOf bytes))
     pub of-join : (l r : RunRecord)
-        → Decided (joinTwoRows inWords l r) (joinTwo inWords l r)
+        → Decided tableOrder (joinTwoRows inWords l r) (joinTwo inWords l r)
         (record {
           first = l .first;
           count = l .count + r .count;
           preauthenticator = wordsOf (xorBytes (jump (r .count) (bytesOf (l .preauthenticator))) (bytesOf (r .preauthenticator)));
         })
-    pub of-join-list : (rs : List RunRecord) → Decided (joinListRows inWords rs) (joinList inWords rs) (joinedAll inWords rs)
+    pub of-join-list : (rs : List RunRecord) → Decided tableOrder (joinListRows inWords rs) (joinList inWords rs) (joinedAll inWords rs)
     pub of-close : (t : Finish) (key iv : List ℕ) (r : RunRecord)
-        → Decided (closeRows inWords c key iv r) (close inWords t c key iv r) (t .tagFrom c key (bytesOf (r .preauthenticator)) (closingMask key iv r))
-    pub of-test : (t : Finish) (key iv : List ℕ) (r : RunRecord) (tag : List ℕ) → Decided (testRows inWords t c key iv r tag) (test inWords t c key iv r tag) tt
+        → Decided tableOrder (closeRows inWords c key iv r) (close inWords t c key iv r) (t .tagFrom c key (bytesOf (r .preauthenticator)) (closingMask key iv r))
+    pub of-test : (t : Finish) (key iv : List ℕ) (r : RunRecord) (tag : List ℕ) → Decided tableOrder (testRows inWords t c key iv r tag) (test inWords t c key iv r tag) tt
     pub of-jump : (mask : List ℕ) (distance : ℤ) (room : ℕ)
-        → DecidedInto (jumpRows mask distance room) (jumpMask mask distance room) (jumpBy distance mask) (jumpBy distance mask) room
-    pub of-sha1 : (text : List ℕ) (room : ℕ) → DecidedInto (sha1Rows text room) (sha1Text text room) (sha1 text) (sha1 text) room
+        → DecidedInto tableOrder (jumpRows mask distance room) (jumpMask mask distance room) (jumpBy distance mask) (jumpBy distance mask) room
+    pub of-sha1 : (text : List ℕ) (room : ℕ) → DecidedInto tableOrder (sha1Rows text room) (sha1Text text room) (sha1 text) (sha1 text) room
 
 -- ---- DEMAND 2 (d). Where the start mask is not zero, the unbroken check passes a record exactly where opening, lent as much output as there is
--- ciphertext, gives a message or 7.
+-- ciphertext, gives a message or 7; and whatever is lent, exactly where opening gives a message, 7 or 5 (ticket P6).
 
-abbrev pub Demand2d : Finish → Cipher → Type 0
-Demand2d t c =
-    (key sealed : List ℕ) → NonzeroMask c key (ivPart sealed) → KeyLength key → notSealed t sealed ≡ false
-    → UnbrokenCheck t c key sealed
-    ↔ (((m : List ℕ) × ((openSealed t c key sealed (length (cipherPart t sealed))) .answer ≡ given m))
-    ⊎ ((openSealed t c key sealed (length (cipherPart t sealed))) .answer ≡ refused 7))
+abbrev pub GivesSome : Outcome (List ℕ) → Type 0
+GivesSome o = (m : List ℕ) × (o .answer ≡ given m)
+
+pub record Demand2d (t : Finish) (c : Cipher) : Type 0 where
+  pub lent-enough : (key sealed : List ℕ) (room : ℕ) → NonzeroMask c key (ivPart sealed) → KeyLength key → notSealed t sealed ≡ false
+      → length (cipherPart t sealed) ≤ room
+      → UnbrokenCheck t c key sealed ↔ (GivesSome (openSealed t c key sealed room) ⊎ ((openSealed t c key sealed room) .answer ≡ refused 7))
+  pub lent-any : (key sealed : List ℕ) (room : ℕ) → NonzeroMask c key (ivPart sealed) → KeyLength key → notSealed t sealed ≡ false
+      → UnbrokenCheck t c key sealed
+      ↔ (GivesSome (openSealed t c key sealed room) ⊎ ((openSealed t c key sealed room) .answer ≡ refused 7) ⊎ ((openSealed t c key sealed room) .answer ≡ refused 5))
 
 -- ---- DEMAND 3. First what the formulas give.
 
@@ -271,11 +281,15 @@ module _ (c : Cipher) (m : Calls) where
 
 -- ---- beside demand 2
 
--- what sealing gave is opened again, by whoever lends as much output as there is ciphertext
+-- what sealing gave is opened again, by whoever lends as much output as there is message
 abbrev pub OpensSealed : Finish → Cipher → Type 0
 OpensSealed t c =
     (key iv message r : List ℕ) (room lent : ℕ) → Key key → Block iv → Bytes message → (seal t c key iv message room) .answer ≡ given r
-    → length r - overhead t ≤ lent → Gives (openSealed t c key r lent) message message lent
+    → length message ≤ lent → Gives (openSealed t c key r lent) message message lent
+
+-- THE OLD SIZE (ticket P6): where as much is lent as there is ciphertext, every answer, every length and every output of opening is the old one
+abbrev pub OldSize : Finish → Cipher → Type 0
+OldSize t c = (key sealed : List ℕ) (room : ℕ) → length (cipherPart t sealed) ≤ room → openSealed t c key sealed room ≡ openBefore t c key sealed room
 
 -- ---- beside demand 2: RECORDS IN WORDS (ticket P12)
 
@@ -357,7 +371,7 @@ unfoldable pub without : ℕ → List (ℕ × Bool) → List (ℕ × Bool)
 without n [] = []
 without n (row ∷ rows) = cond (eqb n (row .0)) (without n rows) (row ∷ without n rows)
 
--- For every other pair each call's whole outcome is the one that it had before row 10 was there.
+-- For every other pair each call's whole outcome is that of its other rows, as if row 10 were not there.
 pub record AsBefore (c : Cipher) : Type 0 where
   pub of-seal : (t : Finish) (key iv message : List ℕ) (room : ℕ) → NonzeroMask c key iv
       → seal t c key iv message room ≡ outcomeBy (decide (without 10 (sealRows t c key iv message room)) (sealedRecord t c key iv message)) (sealedRecord t c key iv message) room

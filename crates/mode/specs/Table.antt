@@ -1,5 +1,5 @@
--- Why a list is refused: document 01's table, with ticket P8's row 1, ticket P4's row 3, and ticket P3's row 10 in it. A row is a number and whether its condition holds; the first row
--- that holds, in the table's order, is the answer.
+-- Why a list is refused: document 01's table, with ticket P8's row 1, ticket P4's row 3, ticket P3's row 10, and ticket P6's row 5 of opening. A row is a
+-- number and whether its condition holds; the first row that holds, in the table's order, is the answer.
 use mathlib.Core.Path.{_≡_}
 use mathlib.Core.List.{List, [], _∷_, _++_}
 use mathlib.Core.Bool.{Bool, true, false, cond, not, _||_}
@@ -32,7 +32,11 @@ firstRow (row ∷ rows) = cond (row .1) (row .0) (firstRow rows)
 abbrev pub tableOrder : List ℕ
 tableOrder = 1 ∷ 2 ∷ 3 ∷ 4 ∷ 8 ∷ 9 ∷ 10 ∷ 5 ∷ 6 ∷ 7 ∷ []
 
--- whether some rows stand in that order
+-- and in opening (ticket P6), where 5 comes after 7
+abbrev pub openOrder : List ℕ
+openOrder = 1 ∷ 3 ∷ 10 ∷ 6 ∷ 7 ∷ 5 ∷ []
+
+-- whether some rows stand in such an order
 unfoldable pub inOrder : List ℕ → List (ℕ × Bool) → Bool
 inOrder numbers [] = true
 inOrder [] (row ∷ rows) = false
