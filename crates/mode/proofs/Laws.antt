@@ -26,7 +26,7 @@ pub all-right : (x y : List (List ℕ)) → AllLong (x ++ y) → AllLong y
 all-right [] y h = h
 all-right (b ∷ x) y h = all-right x y (h .1)
 
-jump-next : (n : ℕ) (b : List ℕ) → jump n (timesX b) ≡ jump (suc n) b
+pub jump-next : (n : ℕ) (b : List ℕ) → jump n (timesX b) ≡ jump (suc n) b
 unfolding jump
 jump-next zero b = refl
 jump-next (suc n) b = ap timesX (jump-next n b)

@@ -2,7 +2,7 @@
 -- 2 (d), and that an output of the old size gets the old answers.
 use mathlib.Core.Path.{_≡_, refl, sym, ap, ap₂, _∙_}
 use mathlib.Core.Logic.{_⊎_, inl, inr, _↔_}
-use mathlib.Core.List.{List, [], _∷_, _++_}
+use mathlib.Core.List.{List, [], _∷_, _++_, append-assoc}
 use mathlib.Core.Option.{Option, some, none as no-message}
 use mathlib.Core.Bool.{Bool, true, false, not}
 use Prim.Native.Nat.{ℕ, suc, _+_, _*_, _-_, _/_, _%_, _≤_, _<_}
@@ -11,7 +11,7 @@ use lib.ListN.{length, length-append}
 use lib.Seq.{length-take-le}
 use borrow.Author.Tests.{ltb-true, ltb-false, le-ltb, lt-ltb, not-false}
 use Rattle.blocks.specs.Bytes.{xorBytes, same}
-use Rattle.gf128.specs.Gf128.{timesX}
+use Rattle.gf128.specs.Gf128.{timesX, jump}
 use Rattle.gf128.proofs.TimesX.{length-timesX}
 use Rattle.fips197.specs.Aes.{KeyLength}
 use Rattle.fips197.proofs.Keys.{is-key, has-key}
@@ -22,7 +22,7 @@ use Rattle.mode.specs.OpenBefore.{openRowsBefore, openBefore}
 use Rattle.mode.specs.Parallel.{Fits}
 use Rattle.mode.specs.Demands.{Refuses, NonzeroMask, Demand2d, OldSize}
 use Rattle.mode.proofs.Decisions.{given-rows, last-row, outcome-answer, outcome-refuses}
-use Rattle.mode.proofs.Laws.{AllLong, xor-long, middle-long, start-long}
+use Rattle.mode.proofs.Laws.{AllLong, jump-next, xor-long, middle-long, start-long}
 use Rattle.mode.proofs.Blocks.{length-padded, count-middle, long-blocks}
 use Rattle.mode.proofs.Bytes.{unpad-sound}
 use Rattle.mode.proofs.Same.{same-true, same-self}
@@ -101,10 +101,22 @@ module _ (t : Finish) (c : Cipher) (key sealed : List ℕ) (room : ℕ) where
     unfolding openSealed decide
     found-refused h = outcome-refuses (decide (openRows t c key sealed room) message₀) message₀ room 5 (left-to-decide ∙ rw (lt-ltb room (length m) h))
 
--- ---- the message is no longer than the ciphertext
+-- ---- the plaintext
+
+-- of adjoining blocks: the second ones from the mask after the first
+pub decrypted-append : (c : Cipher) (key : List ℕ) (x y : List (List ℕ)) (mask : List ℕ)
+    → decrypted c key (x ++ y) mask ≡ decrypted c key x mask ++ decrypted c key y (jump (length x) mask)
+unfolding decrypted jump
+decrypted-append c key [] y mask = refl
+decrypted-append c key (b ∷ x) y mask =
+    ap (λ (r : List ℕ). xorBytes (c .firstHalfBack key (middletext c ciphertext key mask b)) mask ++ r)
+    (decrypted-append c key x y (timesX mask) ∙ ap (λ (m : List ℕ). decrypted c key x (timesX mask) ++ decrypted c key y m) (jump-next (length x) mask))
+    ∙ sym (append-assoc (xorBytes (c .firstHalfBack key (middletext c ciphertext key mask b)) mask) _ _)
+
+-- it is as long as the ciphertext, and the message is no longer
 
 module _ (c : Cipher) (laws : Lawful c) (key : List ℕ) (hk : KeyLength key) where
-  decrypted-long : (bs : List (List ℕ)) (mask : List ℕ) → AllLong bs → length mask ≡ 16 → length (decrypted c key bs mask) ≡ 16 * length bs
+  pub decrypted-long : (bs : List (List ℕ)) (mask : List ℕ) → AllLong bs → length mask ≡ 16 → length (decrypted c key bs mask) ≡ 16 * length bs
   unfolding decrypted
   decrypted-long [] mask hs hm = refl
   decrypted-long (b ∷ bs) mask hs hm =

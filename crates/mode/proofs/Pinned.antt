@@ -1,7 +1,8 @@
 -- What the demands may not lose: whatever sealing and opening take may be cut, at every block; every call that document 01 allows is allowed, at
 -- every place; no pair is left out but one for each key that lends zeros, every call refuses that one, and its row is all that is new; keys
--- have 16 bytes or 32; tags 16 or 20, and records the lengths that go with them; jumps go both ways up to the limit; the table's order is document 01's, and no other order passes for it; every record
--- in words is joined and closed as its bytes are.
+-- have 16 bytes or 32; tags 16 or 20, and records the lengths that go with them; jumps go both ways up to the limit; a list is opened into the
+-- space that it needs, and with the old size as before; the table's order is document 01's, opening's is ticket P6's, and no other order passes for
+-- either; every record in words is joined and closed as its bytes are.
 use mathlib.Core.Path.{_≡_, refl, sym, ap, ap₂, subst, _∙_}
 use mathlib.Core.Logic.{_⊎_, inl, inr, _↔_}
 use mathlib.Core.List.{List, [], _∷_, _++_, map}
@@ -21,10 +22,11 @@ use Rattle.fips197.specs.Cipher.{cipher, invCipher, afterRound}
 use Rattle.fips197.specs.Aes.{KeyLength, short, long, Key}
 use Rattle.sha1.specs.Sha1.{sha1}
 use Rattle.mode.specs.Mode.{Cipher, Finish, overhead, byCipher, bySha1, plaintext, ciphertext, RunRecord, inWords, ByteRecord, inBytes, zeroBlock, keyBlock, encrypt, startMask, blocksOf, ivPart, cipherPart, tagPart, sealedRecord, unbrokenTag, UnbrokenCheck}
-use Rattle.mode.specs.Table.{Answer, refused, given, decide, tableOrder, inOrder, notKey, not16, unaligned, tooLong, notTag, notSealed, beyond, tooFar, apart, notWhole, zeroMask, tooShort, limit, longestMessage, longestSealed}
+use Rattle.mode.specs.Table.{Answer, refused, given, decide, tableOrder, openOrder, inOrder, notKey, not16, unaligned, tooLong, notTag, notSealed, beyond, tooFar, apart, notWhole, zeroMask, tooShort, limit, longestMessage, longestSealed}
 use Rattle.mode.specs.Calls.{Outcome, Kind, middle, last, outcomeBy, blocksOfRun, unalignedRun, seal, openSealed, openRows, unpadded, notPadded, orEmpty, plaintextOf, passFrom, runRecord, sealRun, checkRun, joinTwo, closingTag, close, test, Calls, callsOf}
+use Rattle.mode.specs.OpenBefore.{openRowsBefore, openBefore}
 use Rattle.mode.specs.Parallel.{sealing, checking, ivOf, lastKind, textOf, Fits, Cut, Setting, WellFormed, Segment, isRecorded, segment, Call, runAt, joinPair, joinMany, consecutive, AllRecorded, recordsAt, Allowed, start, roomOf, runOutcome, afterAll, EachCall}
-use Rattle.mode.specs.Demands.{IsAes, Aes128And256, KeyInStepOne, TwoFinishes, Gives, Refuses, InTable, NonzeroMask, Demand2a, Demand2d, Agrees, Demand3, ZeroMask, zeroMaskIv, without, AsBefore, Formed, inForm, mapAnswer, WordsAsBytes, RunRefused, ZeroMaskRack, JumpsTo, SignedJump}
+use Rattle.mode.specs.Demands.{IsAes, Aes128And256, KeyInStepOne, TwoFinishes, Gives, Refuses, InTable, NonzeroMask, SealedFrom, Demand2a, Demand2b, Demand2d, OldSize, Agrees, Demand3, ZeroMask, zeroMaskIv, without, AsBefore, Formed, inForm, mapAnswer, WordsAsBytes, RunRefused, ZeroMaskRack, JumpsTo, SignedJump}
 use Rattle.fips197.proofs.Keys.{is-key, isnt-key, has-key}
 use Rattle.mode.proofs.Keys.{keyBlock-short, keyBlock-first}
 use Rattle.mode.proofs.Rows.{is-whole}
@@ -203,7 +205,7 @@ pub run-ten : (c : Cipher) → ZeroMaskRack c → (s : Setting) → zeroMask c (
 unfolding EachCall Allowed RunRefused
 run-ten c rack s z wf i room h e = (rack s z wf (runAt i room ∷ []) ((h, e), tt)) .0 .0
 
--- under every other pair each call comes to what it came to before, by its rows as they stood
+-- under every other pair each call comes to what its other rows decide
 module _ (t : Finish) (c : Cipher) (b : AsBefore c) (key iv : List ℕ) where
   pub seal-before : (message : List ℕ) (room : ℕ) → zeroMask c key iv ≡ false
       → let s = sealedRecord t c key iv message in
@@ -371,41 +373,82 @@ pub range : (tooFar (pos limit) ≡ false) × (tooFar (negℤ (pos limit)) ≡ f
 unfolding tooFar
 range = (refl, refl, refl, refl)
 
+-- ---- opening into the space that the list needs
+
+module _ (t : Finish) (c : Cipher) where
+  -- an output exactly as long as the message is enough; a byte less gets 5, whether or not it holds the ciphertext
+  pub exact-room : Demand2b t c → (key sealed m : List ℕ) → Key key → SealedFrom t c key sealed m → Gives (openSealed t c key sealed (length m)) m m (length m)
+  exact-room d key sealed m hk f = d .all-sealed key sealed m (length m) hk f (omega arith)
+
+  pub one-byte-short : Demand2b t c → (key sealed m : List ℕ) (b : ℕ) → Key key → SealedFrom t c key sealed (b ∷ m) → Refuses (openSealed t c key sealed (length m)) 5 (length m)
+  one-byte-short d key sealed m b hk f = d .no-room key sealed (b ∷ m) (length m) hk f (omega arith)
+
+  -- a record that nothing was sealed to is not said to need more output
+  pub short-of-something : Demand2b t c → (key sealed : List ℕ) (room : ℕ) → Key key → Bytes sealed → ((m : List ℕ) → SealedFrom t c key sealed m → ⊥)
+      → (openSealed t c key sealed room) .answer ≡ refused 5 → ⊥
+  short-of-something d key sealed room hk hs h e = let n = d .only-no-room key sealed room hk hs e in h (n .0) (n .1 .0)
+
+  -- with as much output as there is ciphertext, or more, opening is decided by document 01's rows, 5 among them as it stands there
+  pub document-rows : OldSize t c → (key sealed : List ℕ) (room : ℕ) → length (cipherPart t sealed) ≤ room
+      → let message = orEmpty (unpadded (plaintextOf t c key sealed)) in
+      openSealed t c key sealed room
+      ≡ outcomeBy
+      (decide
+      ((1, notKey key)
+      ∷ (3, notSealed t sealed)
+      ∷ (10, zeroMask c key (ivPart sealed))
+      ∷ (5, tooShort room (length (cipherPart t sealed)))
+      ∷ (6, not (same (unbrokenTag t c ciphertext key (ivPart sealed) (blocksOf (cipherPart t sealed))) (tagPart t sealed)))
+      ∷ (7, notPadded (unpadded (plaintextOf t c key sealed)))
+      ∷ [])
+      message) message room
+  unfolding openBefore openRowsBefore
+  document-rows s = s
+
+  pub checked-by-opening : Demand2d t c → (key sealed : List ℕ) → NonzeroMask c key (ivPart sealed) → KeyLength key → notSealed t sealed ≡ false
+      → let o = openSealed t c key sealed (length (cipherPart t sealed)) in
+      UnbrokenCheck t c key sealed ↔ (((m : List ℕ) × (o .answer ≡ given m)) ⊎ (o .answer ≡ refused 7))
+  checked-by-opening d key sealed nz hk hs = d .lent-enough key sealed (length (cipherPart t sealed)) nz hk hs (omega arith)
+
 -- ---- the table's order
 
 abbrev documentOrder : List ℕ
 documentOrder = 1 ∷ 2 ∷ 3 ∷ 4 ∷ 8 ∷ 9 ∷ 10 ∷ 5 ∷ 6 ∷ 7 ∷ []
 
+-- ticket P6's
+abbrev ticketOrder : List ℕ
+ticketOrder = 1 ∷ 3 ∷ 10 ∷ 6 ∷ 7 ∷ 5 ∷ []
+
 pub rowsOf : List ℕ → List (ℕ × Bool)
 rowsOf [] = []
 rowsOf (n ∷ ns) = (n, true) ∷ rowsOf ns
 
--- rows with all the numbers, in document 01's order
-pub document-order : inOrder tableOrder (rowsOf documentOrder) ≡ true
+-- rows with all the numbers, in document 01's order, and in the ticket's
+pub document-order : (inOrder tableOrder (rowsOf documentOrder) ≡ true) × (inOrder openOrder (rowsOf ticketOrder) ≡ true)
 unfolding inOrder rowsOf
-document-order = refl
+document-order = (refl, refl)
 
--- no number of the second list may stand before n, nor n twice
-noneBefore : ℕ → List ℕ → Bool
-noneBefore n [] = true
-noneBefore n (k ∷ ks) = cond (inOrder tableOrder (rowsOf (k ∷ n ∷ []))) false (noneBefore n ks)
+-- no number of the list may stand before n in this order, nor n twice
+noneBefore : List ℕ → ℕ → List ℕ → Bool
+noneBefore order n [] = true
+noneBefore order n (k ∷ ks) = cond (inOrder order (rowsOf (k ∷ n ∷ []))) false (noneBefore order n ks)
 
-pub noPairTurned : List ℕ → Bool
-noPairTurned [] = true
-noPairTurned (n ∷ ns) = cond (noneBefore n (n ∷ ns)) (noPairTurned ns) false
+pub noPairTurned : List ℕ → List ℕ → Bool
+noPairTurned order [] = true
+noPairTurned order (n ∷ ns) = cond (noneBefore order n (n ∷ ns)) (noPairTurned order ns) false
 
-pub no-other-order : noPairTurned documentOrder ≡ true
+pub no-other-order : (noPairTurned tableOrder documentOrder ≡ true) × (noPairTurned openOrder ticketOrder ≡ true)
 unfolding inOrder rowsOf noneBefore noPairTurned
-no-other-order = refl
+no-other-order = (refl, refl)
 
 -- a number that the table does not have stands nowhere
-pub not-in-table : inOrder tableOrder (rowsOf (0 ∷ [])) ≡ false
+pub not-in-table : (inOrder tableOrder (rowsOf (0 ∷ [])) ≡ false) × (inOrder openOrder (rowsOf (0 ∷ [])) ≡ false)
 unfolding inOrder rowsOf
-not-in-table = refl
+not-in-table = (refl, refl)
 
-pub not-after-table : inOrder tableOrder (rowsOf (7 ∷ 11 ∷ [])) ≡ false
+pub not-after-table : (inOrder tableOrder (rowsOf (7 ∷ 11 ∷ [])) ≡ false) × (inOrder openOrder (rowsOf (5 ∷ 11 ∷ [])) ≡ false)
 unfolding inOrder rowsOf
-not-after-table = refl
+not-after-table = (refl, refl)
 
 -- demand 1 bounds the numbers to the table's
 pub only-ten : (n : ℕ) → InTable n → (n ≡ 0 → ⊥) × (n < 11)

@@ -163,14 +163,19 @@ zero-key-agrees : Agrees toy (callsOf toy) zeroKey (runAt 0 16 ∷ []) (afterAll
 unfolding computed
 zero-key-agrees = demand3 toy toy-lawful zeroKey refl zeroKey-formed (runAt 0 16 ∷ []) ((lit< tt, refl), tt)
 
--- ---- opening: a message that was sealed, a record with a bit of its tag flipped, a record whose last block is not padded
+-- ---- opening: a message that was sealed, a record with a bit of its tag flipped, a record whose last block is not padded; each with enough
+-- output and with too little
 
 abbrev sealed : List ℕ
 sealed = sealedRecord byCipher toy aKey anIv (5 ∷ 6 ∷ 7 ∷ [])
 
-opens : (openSealed byCipher toy aKey sealed 16) .answer ≡ given (5 ∷ 6 ∷ 7 ∷ [])
+opens : ((openSealed byCipher toy aKey sealed 16) .answer ≡ given (5 ∷ 6 ∷ 7 ∷ [])) × ((openSealed byCipher toy aKey sealed 3) .answer ≡ given (5 ∷ 6 ∷ 7 ∷ []))
 unfolding computed
-opens = refl
+opens = (refl, refl)
+
+too-short : (openSealed byCipher toy aKey sealed 2) .answer ≡ refused 5
+unfolding computed
+too-short = refl
 
 -- the same under the key of 32 bytes, which the key of its first 16 does not open
 long-opens : (openSealed byCipher toy aLongKey (sealedRecord byCipher toy aLongKey anIv (5 ∷ 6 ∷ 7 ∷ [])) 16) .answer ≡ given (5 ∷ 6 ∷ 7 ∷ [])
@@ -181,14 +186,17 @@ first-block-opens-not : (openSealed byCipher toy aKey (sealedRecord byCipher toy
 unfolding computed
 first-block-opens-not = refl
 
-flipped : (openSealed byCipher toy aKey (take 47 sealed ++ (bitXor (getD sealed 47 0) 1 ∷ [])) 16) .answer ≡ refused 6
+abbrev flippedRecord : List ℕ
+flippedRecord = take 47 sealed ++ (bitXor (getD sealed 47 0) 1 ∷ [])
+
+flipped : ((openSealed byCipher toy aKey flippedRecord 16) .answer ≡ refused 6) × ((openSealed byCipher toy aKey flippedRecord 2) .answer ≡ refused 6)
 unfolding computed
-flipped = refl
+flipped = (refl, refl)
 
 abbrev unpaddedRecord : List ℕ
 unpaddedRecord =
     anIv ++ (unbroken toy plaintext aKey anIv (replicate 16 255 ∷ [])) .output ++ unbrokenTag byCipher toy plaintext aKey anIv (replicate 16 255 ∷ [])
 
-not-padded : (openSealed byCipher toy aKey unpaddedRecord 16) .answer ≡ refused 7
+not-padded : ((openSealed byCipher toy aKey unpaddedRecord 16) .answer ≡ refused 7) × ((openSealed byCipher toy aKey unpaddedRecord 0) .answer ≡ refused 7)
 unfolding computed
-not-padded = refl
+not-padded = (refl, refl)

@@ -1,2 +1,4 @@
--- Opening: where the message ends, what is let out, what the rows leave to decide.
+-- Padding: the last block. Passes: what the two passes over a ciphertext come to. Opening: what the rows leave to decide.
+mod Padding
+mod Passes
 mod Opening

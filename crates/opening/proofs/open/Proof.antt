@@ -29,8 +29,7 @@ returns c =
     let a = c .before .before .before .before .before .before .before .before .before .args in
     let room = length (a .out .now) in
     let x = c .before .open-refusal in
-    let e = x .ensures ∙ ap (λ (n : ℕ). firstRow (openFirstRows (finishNamed (a .finish)) (a .key .now) (a .sealed .now) n)) (c .before .before .before .before .clear .kept .0) in
-    let d = lengths-refused (finishNamed (a .finish)) (a .key .now) (a .sealed .now) room (x .result) e (c .if1 .taken) in
+    let d = lengths-refused (finishNamed (a .finish)) (a .key .now) (a .sealed .now) room (x .result) (x .ensures) (c .if1 .taken) in
     (refused-written _ _ room (x .result) d, c .before .before .before .before .clear .ensures ∙ refused-output _ _ room (x .result) d)
 
 open-into-requires : tie.Need-open-into-requires

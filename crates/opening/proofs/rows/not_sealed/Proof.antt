@@ -9,8 +9,8 @@ use lib.ListN.{length}
 use Rattle.mode.specs.Mode.{finishNamed, overhead}
 use Rattle.mode.proofs.Finishes.{tag-within}
 use Rattle.mode.proofs.Rows.{sealed-short, sealed-long, sealed-rest}
-use Rattle.opening.proofs.not_sealed.Statement.{statement}
-use Rattle.opening.proofs.not_sealed.Tie as tie
+use Rattle.opening.proofs.rows.not_sealed.Statement.{statement}
+use Rattle.opening.proofs.rows.not_sealed.Tie as tie
 
 overhead-requires : tie.Need-overhead-requires
 overhead-requires c κs = search needs

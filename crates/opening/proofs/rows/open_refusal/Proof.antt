@@ -1,23 +1,21 @@
 -- Row by row.
 use borrow.Author.Needs.{needs}
-use borrow.Author.Tests.{le-ltb, lt-ltb}
 use mathlib.Core.Path.{_≡_, sym, _∙_}
 use mathlib.Core.Bool.{Bool, false}
 use mathlib.Core.List.{List, _∷_}
-use Prim.Native.Nat.{ℕ, _+_, _-_, _≤_}
+use Prim.Native.Nat.{ℕ, _+_, _≤_}
 use native.Mathlib.Omega.{arith}
 use lib.ListN.{length, take}
 use lib.Seq.{length-take-le}
 use Rattle.fips197.proofs.Keys.{has-key}
-use Rattle.mode.specs.Mode.{finishNamed, overhead, ivPart, cipherPart}
+use Rattle.mode.specs.Mode.{finishNamed, overhead, ivPart}
 use Rattle.mode.specs.Aes.{aes}
 use Rattle.mode.specs.Table.{firstRow, notKey, notSealed, zeroMask}
 use Rattle.mode.specs.Parallel.{Fits}
 use Rattle.mode.proofs.Rows.{row-holds, row-passes, no-row}
-use Rattle.mode.proofs.Demand2.{sealed-lengths}
-use Rattle.mode.proofs.Demand3.{cipher-length}
-use Rattle.opening.proofs.open_refusal.Statement.{statement}
-use Rattle.opening.proofs.open_refusal.Tie as tie
+use Rattle.mode.proofs.Passed.{sealed-lengths}
+use Rattle.opening.proofs.rows.open_refusal.Statement.{statement}
+use Rattle.opening.proofs.rows.open_refusal.Tie as tie
 
 not-key-requires : tie.Need-not-key-requires
 not-key-requires c κs = search needs
@@ -63,12 +61,6 @@ returns-3 : tie.Need-returns-3
 unfolding ivPart
 returns-3 c = sym (both-pass (c .before .before .before) _ ∙ row-holds 10 _ _ (sym (c .before .zero-mask .ensures) ∙ c .if3 .taken))
 
-overhead-requires : tie.Need-overhead-requires
-overhead-requires c κs = search needs
-
-sub-if4 : tie.Need-sub-if4
-sub-if4 c = omega (arith, c .overhead .ensures, least (c .before .before .before .before))
-
 -- and row 10
 three-pass : (c : tie.Else3) (rows : List (ℕ × Bool)) → let a = c .before .before .before .before .before .before .before .before .before .args in
     firstRow ((1, notKey (a .key .now)) ∷ (3, notSealed (finishNamed (a .finish)) (a .sealed .now)) ∷ (10, zeroMask aes (a .key .now) (ivPart (a .sealed .now))) ∷ rows) ≡ firstRow rows
@@ -76,33 +68,7 @@ unfolding ivPart
 three-pass c rows = both-pass (c .before .before .before) _ ∙ row-passes 10 _ _ (sym (c .before .zero-mask .ensures) ∙ c .if3 .left)
 
 returns-4 : tie.Need-returns-4
-returns-4 c =
-    let q = c .before .before in
-    let a = q .before .before .before .before .before .before .before .before .before .args in
-    let t = finishNamed (a .finish) in
-    let h = least (q .before .before .before) in
-    sym (three-pass q _ ∙ row-holds 5 _ _ (lt-ltb (a .room) (length (cipherPart t (a .sealed .now))) (omega (arith, h, cipher-length t (a .sealed .now) (omega (arith, h)), c .before .overhead .ensures, c .if4 .taken))))
-
-returns-5 : tie.Need-returns-5
-returns-5 c =
-    let q = c .before .before in
-    let a = q .before .before .before .before .before .before .before .before .before .args in
-    let t = finishNamed (a .finish) in
-    let h = least (q .before .before .before) in
-    sym (three-pass q _ ∙ row-passes 5 _ _ (le-ltb (a .room) (length (cipherPart t (a .sealed .now))) (omega (arith, h, cipher-length t (a .sealed .now) (omega (arith, h)), c .before .overhead .ensures, c .if4 .left))) ∙ no-row)
+returns-4 c = sym (three-pass c _ ∙ no-row)
 
 pub open-refusal-spec : {M : Type 1} → statement M
-open-refusal-spec =
-    tie.close
-    (tie.spec
-    not-key-requires
-    returns
-    not-sealed-requires
-    returns-2
-    slice-aggregate-zero-mask
-    zero-mask-requires
-    returns-3
-    overhead-requires
-    sub-if4
-    returns-4
-    returns-5)
+open-refusal-spec = tie.close (tie.spec not-key-requires returns not-sealed-requires returns-2 slice-aggregate-zero-mask zero-mask-requires returns-3 returns-4)
