@@ -120,6 +120,11 @@ module _ (text : List ℕ) (h : Ciphertext text) where
     pub front-whole : length (frontOf key mask text) % 16 ≡ 0
     front-whole = omega (arith, front-long, h .least, h .aligned)
 
+-- a run that writes no byte leaves a slice as it was
+pub none-written : (output old new : List ℕ) → length output ≡ 0 → new ≡ output ++ drop 0 old → new ≡ old
+none-written [] old new l e = e
+none-written (x ∷ output) old new l e = absurd (omega arith)
+
 -- what is written over all of a slice is all that it holds
 pub all-written : (n : ℕ) (output old new : List ℕ) → length old ≡ n → new ≡ output ++ drop n old → new ≡ output
 all-written n output old new l e = e ∙ ap (λ (x : List ℕ). output ++ x) (ap (λ (k : ℕ). drop k old) (sym l) ∙ drop-length old) ∙ append-nil output

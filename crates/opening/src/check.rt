@@ -15,22 +15,24 @@ pub(crate) struct Checked {
 }
 
 // CHECK a ciphertext, from its start mask. The last block is a run of its own, since its plaintext is wanted: what it gives is joined to what the
-// blocks before it give.
+// blocks before it give. The output is as it was: a check writes nothing.
 pub(crate) fn check(
     finish: Finish,
     key: &[u8],
     start: Words,
     keys: &[u8; cipher::KEYS],
     text: &[u8],
+    out: &mut [u8],
 ) -> Checked
     requires { ⌜ Expands (now key) (now keys) ⌝ }
     requires { ⌜ Ciphertext (now text) ⌝ }
-    ensures { λ r. ⌜ Checks (finishNamed finish) (now (key .entry)) (bytesOf start) (now (text .entry)) (r .tag) (r .last) ⌝ }
+    ensures answer { λ r. ⌜ Checks (finishNamed finish) (now (key .entry)) (bytesOf start) (now (text .entry)) (r .tag) (r .last) ⌝ }
+    ensures output { λ _. ⌜ now (out .exit) ≡ now (out .entry) ⌝ }
 {
     let front = text.len() - 16;
-    let mut last = [0u8; 16];
-    let before = runs::run::run(Task::Check, start, keys, text, front / 16, &mut last);
+    let before = runs::run::run(Task::Check, start, keys, text, front / 16, out);
     let mask = before.mask;
+    let mut last = [0u8; 16];
     let end = runs::run::run(Task::Open, mask, keys, &text[front..], 1, &mut last);
     let moved = gf128::times_x(before.preauthenticator);
     let preauthenticator = blocks::words::xor(moved, end.preauthenticator);

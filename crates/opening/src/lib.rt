@@ -27,7 +27,7 @@ fn open_into(finish: Finish, key: &[u8], sealed: &[u8], out: &mut [u8]) -> Writt
     let start = p.start;
     let stop = sealed.len() - mode::finish::tag_length(finish);
     let text = &sealed[16..stop];
-    let checked = crate::check::check(finish, key, start, &keys, text);
+    let checked = crate::check::check(finish, key, start, &keys, text, out);
     let tag = checked.tag;
     if !tags::tag::is_tag(tag, &sealed[stop..]) {
         return Written {

@@ -6,9 +6,10 @@ use mathlib.Core.List.{List, _++_}
 use Prim.Native.Nat.{ℕ, _+_, _-_, _%_, _≤_}
 use native.Mathlib.Omega.{arith}
 use lib.ListN.{length, take, drop}
-use Rattle.blocks.specs.Bytes.{same}
+use Rattle.blocks.specs.Bytes.{zeros, same}
 use Rattle.blocks.specs.Words.{bytesOf}
 use Rattle.blocks.proofs.Parts.{back-is}
+use Rattle.blocks.proofs.Zeros.{fresh}
 use Rattle.cipher.specs.Keys.{keyOf}
 use Rattle.mode.specs.Mode.{finishNamed, overhead, ciphertext, zeroBlock, blocksOf, startMask, pass, unbroken, unbrokenTag, ivPart, cipherPart, tagPart}
 use Rattle.mode.specs.Aes.{aes}
@@ -78,7 +79,7 @@ whole-blocks-there c =
     is-ciphertext (finishNamed (s .args .finish)) (s .args .key .now) (s .args .sealed .now) _ (passed s) (text-is c)
 
 check-requires : tie.Need-check-requires
-check-requires c κs = (c .before .before .before .before .before .prepare .ensures .expanded, whole-blocks-there (c .before .before))
+check-requires c κs = let o = c .before .before .before in (o .before .before .before .prepare .ensures .expanded, whole-blocks-there o)
 
 sub-is-tag : tie.Need-sub-is-tag
 sub-is-tag c = search needs
@@ -91,17 +92,18 @@ part-is-tag-end c = search needs
 
 is-tag-requires : tie.Need-is-tag-requires
 is-tag-requires c κs =
-    let o = c .before .before .before .before .before in
+    let o = c .before .before .before .before .before .before .before .before in
     let s = o .before .before .before .before .before .before .before .before in
     omega (arith, ap length (tag-is o), length-tag (finishNamed (s .args .finish)) (s .args .sealed .now) (passed s .least), tag-within (s .args .finish))
 
 -- the comparison is the one of the mode's tag with the record's
-tags : (c : tie.After-is-tag) → let a = c .before .before .before .before .before .before .before .before .before .before .before .before .before .before .args in
+tags : (c : tie.After-is-tag) → let a = c .before .before .before .before .before .before .before .before .before .before .before .before .before .before .before .before .before .args in
     let t = finishNamed (a .finish) in
     c .is-tag .result ≡ same (unbrokenTag t aes ciphertext (a .key .now) (ivPart (a .sealed .now)) (blocksOf (cipherPart t (a .sealed .now)))) (tagPart t (a .sealed .now))
 unfolding unbrokenTag unbroken ivPart
 tags c =
-    let o = c .before .before .before .before .before .before in
+    let o = c .before .before .before .before .before .before .before .before .before in
+    let k = c .before .before .before .before .before .check in
     let s = o .before .before .before .before .before .before .before .before in
     let a = s .args in
     let t = finishNamed (a .finish) in
@@ -112,36 +114,44 @@ tags c =
     let n = (is-ciphertext t key sealed (cipherPart t sealed) l refl) .aligned in
     let long : length (unbrokenTag t aes ciphertext key (ivPart sealed) bs) ≡ length (tagPart t sealed) =
     unbroken-tag-long aes aes-lawful key (l .key-long) (ivPart sealed) (iv-long s) t (both aes aes-lawful (a .finish)) ciphertext bs (long-blocks (cipherPart t sealed) n) ∙ sym (length-tag t sealed (l .least)) in
-    let given : c .before .before .before .check .result .tag ≡ heldTag (unbrokenTag t aes ciphertext key (ivPart sealed) bs) =
-    c .before .before .before .check .ensures .tagged
+    let given : k .result .tag ≡ heldTag (unbrokenTag t aes ciphertext key (ivPart sealed) bs) =
+    k .ensures .0 .tagged
     ∙ ap₂ (λ (x m : List ℕ). heldTag (t .tagFrom aes key ((pass aes ciphertext key (blocksOf x) m zeroBlock) .preauthenticator) ((pass aes ciphertext key (blocksOf x) m zeroBlock) .mask))) (text-is o) (o .before .before .before .prepare .ensures .started) in
     c .is-tag .ensures
-    ∙ ap (λ (g : List ℕ). same (take (length g) (c .before .before .before .check .result .tag)) g) (tag-is o)
+    ∙ ap (λ (g : List ℕ). same (take (length g) (k .result .tag)) g) (tag-is o)
     ∙ ap (λ (y : List ℕ). same y (tagPart t sealed)) (ap (take (length (tagPart t sealed))) given ∙ held-front (unbrokenTag t aes ciphertext key (ivPart sealed) bs) (length (tagPart t sealed)) long)
+
+-- the first pass left the output as it was
+untouched : (c : tie.After-check) → let s = c .before .before .before .before .before .before .before .before .before .before .before .before in c .check .last .1 .1 .1 .1 .1 .0 ≡ zeros (length (s .args .out .now))
+untouched c = c .check .ensures .1 ∙ c .before .before .before .before .before .before .before .before .before .before .before .before .pre .1 .zero
+
+same-length : tie.Need-same-length
+same-length c = search needs
 
 returns : tie.Need-returns
 unfolding openSealed
 returns c =
-    let s = c .before .before .before .before .before .before .before .before .before .before .before .before .before .before .before in
+    let s = c .before .before .before .before .before .before .before .before .before .before .before .before .before .before .before .before .before .before in
     let a = s .args in
     let room = length (a .out .now) in
     let d = tag-differs (finishNamed (a .finish)) (a .key .now) (a .sealed .now) room (s .pre .0) (sym (tags (c .before)) ∙ not-true (c .before .is-tag .result) (c .if1 .taken)) in
-    (refused-written _ _ room 6 d, s .pre .1 .zero ∙ refused-output _ _ room 6 d)
+    (refused-written _ _ room 6 d, untouched (c .before .before .before .before .before .before) ∙ refused-output _ _ room 6 d)
 
 release-requires : tie.Need-release-requires
 release-requires c κs =
-    let o = c .before .before .before .before .before .before .before .before .before .before in
-    let s = o .before .before .before .before .before .before .before .before in
-    (o .before .before .before .prepare .ensures .expanded .schedule, (whole-blocks-there o, s .pre .1))
+    let k = c .before .before .before .before .before .before .before .before .before in
+    let o = k .before .before .before .before in
+    (o .before .before .before .prepare .ensures .expanded .schedule, (whole-blocks-there o, fresh (length (o .before .before .before .before .before .before .before .before .args .out .now)) (k .check .last .1 .1 .1 .1 .1 .0) (untouched k)))
 
-same-length : tie.Need-same-length
-same-length c = search needs
+same-length-2 : tie.Need-same-length-2
+same-length-2 c = search needs
 
 returns-2 : tie.Need-returns-2
 unfolding plaintextOf ivPart
 returns-2 c =
     let q = c .before .before .before .before .before .before .before in
-    let o = q .before .before .before .before .before .before in
+    let k = q .before .before .before .before .before .check in
+    let o = q .before .before .before .before .before .before .before .before .before in
     let s = o .before .before .before .before .before .before .before .before in
     let a = s .args in
     let t = finishNamed (a .finish) in
@@ -149,15 +159,16 @@ returns-2 c =
     let sealed = a .sealed .now in
     let room = length (a .out .now) in
     let p = o .before .before .before .prepare in
-    let last = q .before .before .before .check .result .last in
+    let last = k .result .last in
     let text = take (length sealed - o .tag-length .result - 16) (drop 16 sealed) in
+    let front = frontOf (keyOf (p .result .keys)) (bytesOf (p .result .start)) text in
     let y = c .before .before .release in
-    let plain : frontOf (keyOf (p .result .keys)) (bytesOf (p .result .start)) text ++ last ≡ plaintextOf t aes key sealed =
-    ap (λ (k : List ℕ). frontOf k (bytesOf (p .result .start)) text ++ last) (p .ensures .expanded .of)
-    ∙ q .before .before .before .check .ensures .opened
+    let plain : front ++ last ≡ plaintextOf t aes key sealed =
+    ap (λ (x : List ℕ). frontOf x (bytesOf (p .result .start)) text ++ last) (p .ensures .expanded .of)
+    ∙ k .ensures .0 .opened
     ∙ ap₂ (λ (x m : List ℕ). decrypted aes key (blocksOf x) m) (text-is o) (p .ensures .started) in
-    let e : released (frontOf (keyOf (p .result .keys)) (bytesOf (p .result .start)) text ++ last) room ≡ openSealed t aes key sealed room =
-    ap (λ (x : List ℕ). released x room) plain
+    let e : released (front ++ last) (length (k .last .1 .1 .1 .1 .1 .0)) ≡ openSealed t aes key sealed room =
+    ap₂ released plain (ap length (k .ensures .1))
     ∙ sym (tag-right t key sealed room (s .pre .0) (sym (tags q) ∙ not-false (q .is-tag .result) (c .before .before .before .before .before .before .if1 .left))) in
     (y .ensures .0 ∙ ap writtenOf e, y .ensures .1 ∙ ap (λ (z : Outcome (List ℕ)). z .output) e)
 
@@ -177,7 +188,8 @@ open-into-spec =
     part-is-tag-start
     part-is-tag-end
     is-tag-requires
+    same-length
     returns
     release-requires
-    same-length
+    same-length-2
     returns-2)
