@@ -29,7 +29,7 @@ pub record PromisedRun (numbers : List ℕ) (o : RunOutcome) (size room : ℕ) :
 -- 24 comes only from the four functions that take a record; every other number is the table's
 pub record Promises : Type 0 where
   pub of-seal : (t : Finish) (key iv message : List ℕ) (room : ℕ) → Promised (0 ∷ 1 ∷ 2 ∷ 3 ∷ 10 ∷ 5 ∷ []) (seal t aes key iv message room) room
-  pub of-open : (t : Finish) (key sealed : List ℕ) (room : ℕ) → Promised (0 ∷ 1 ∷ 3 ∷ 10 ∷ 5 ∷ 6 ∷ 7 ∷ []) (openSealed t aes key sealed room) room
+  pub of-open : (t : Finish) (key sealed : List ℕ) (room : ℕ) → Promised (0 ∷ 1 ∷ 3 ∷ 10 ∷ 6 ∷ 7 ∷ 5 ∷ []) (openSealed t aes key sealed room) room
   pub of-seal-run : (key iv : List ℕ) (first last : ℕ) (bytes : List ℕ) (size room : ℕ)
       → PromisedRun (0 ∷ 1 ∷ 2 ∷ 3 ∷ 4 ∷ 10 ∷ 5 ∷ []) (sealRunBytes key iv first last bytes size room) size room
   pub of-check-run : (key iv : List ℕ) (first : ℕ) (bytes : List ℕ) (room : ℕ)

@@ -31,10 +31,14 @@ sealed = sealedRecord byCipher toy aKey anIv (5 ∷ 6 ∷ 7 ∷ [])
 abbrev hashed : List ℕ
 hashed = sealedRecord bySha1 toy aKey anIv (5 ∷ 6 ∷ 7 ∷ [])
 
--- a block is 52 bytes, and is opened; with a bit of its tag flipped it is not
-hashed-opens : (length hashed ≡ 52) × ((openSealed bySha1 toy aKey hashed 16) .answer ≡ given (5 ∷ 6 ∷ 7 ∷ []))
+-- a block is 52 bytes, and is opened, into the message's length too; with a byte less, or with a bit of its tag flipped, it is not
+hashed-opens : (length hashed ≡ 52) × ((openSealed bySha1 toy aKey hashed 16) .answer ≡ given (5 ∷ 6 ∷ 7 ∷ [])) × ((openSealed bySha1 toy aKey hashed 3) .answer ≡ given (5 ∷ 6 ∷ 7 ∷ []))
 unfolding computed Sha1.computed
-hashed-opens = (refl, refl)
+hashed-opens = (refl, refl, refl)
+
+hashed-too-short : (openSealed bySha1 toy aKey hashed 2) .answer ≡ refused 5
+unfolding computed Sha1.computed
+hashed-too-short = refl
 
 hashed-flipped : (openSealed bySha1 toy aKey (take 51 hashed ++ (bitXor (getD hashed 51 0) 1 ∷ [])) 16) .answer ≡ refused 6
 unfolding computed Sha1.computed

@@ -366,13 +366,13 @@ pub demand2b : (t : Finish) (c : Cipher) → Lawful c → LawfulFinish t c → D
 demand2b t c laws finish =
     record {
       only-sealed = λ key sealed m room kb sb e.
-        let f = given-found t c key sealed room m e in
-        (found-sealed t c laws key kb sealed m sb (f .0), f .1, whole key sealed m room e);
-      all-sealed = λ key sealed m room kb f h. whole key sealed m room (found-given t c key sealed room m (sealed-found t c laws key kb finish sealed m f) h);
+          let f = given-found t c key sealed room m e in
+          (found-sealed t c laws key kb sealed m sb (f .0), f .1, whole key sealed m room e);
+      all-sealed = λ key sealed m room kb f h. whole key sealed m room (found-given t c key sealed room m (sealed-found t c laws key kb finish sealed m f) (omega (arith, h)));
       no-room = λ key sealed m room kb f h. found-refused t c key sealed room m (sealed-found t c laws key kb finish sealed m f) h;
       only-no-room = λ key sealed room kb sb e.
-        let f = refused-found t c key sealed room e in
-        (f .0, (found-sealed t c laws key kb sealed (f .0) sb (f .1 .0), f .1 .1));
+          let f = refused-found t c key sealed room e in
+          (f .0, (found-sealed t c laws key kb sealed (f .0) sb (f .1 .0), f .1 .1));
     }
   where
     whole : (key sealed m : List ℕ) (room : ℕ) → (openSealed t c key sealed room) .answer ≡ given m → Gives (openSealed t c key sealed room) m m room

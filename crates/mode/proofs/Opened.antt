@@ -158,7 +158,7 @@ old-size t c laws key sealed room h = by (notKey key) (notSealed t sealed) refl 
     by false true p q = rw (p, q)
     by false false p q =
         let w = message-within c laws key (has-key key p) t sealed q in
-        rw (p, q, le-ltb room (length (cipherPart t sealed)) h, le-ltb room (length (messageOf t c key sealed)) (omega (arith, w, h)))
+        rw (p, q, le-ltb room (length (cipherPart t sealed)) (omega (arith, h)), le-ltb room (length (messageOf t c key sealed)) (omega (arith, w, h)))
 
 -- ---- DEMAND 2 (d)
 
@@ -215,13 +215,13 @@ pub demand2d : (t : Finish) (c : Cipher) → Lawful c → Demand2d t c
 demand2d t c laws =
     record {
       lent-enough = λ key sealed room nz hk hs h.
-        let w = message-within c laws key hk t sealed hs in
-        let fits = le-ltb room (length (messageOf t c key sealed)) (omega (arith, w, h)) in
-        chain (checked t c key sealed room nz hk hs)
-        (right-or-refused (tagSame t c key sealed room) (unpaddedText t c key sealed room) (messageOf t c key sealed) _
-        (by-contents t c key sealed room nz hk hs ∙ ap (λ (b : Bool). contents (tagSame t c key sealed room) (unpaddedText t c key sealed room) b (messageOf t c key sealed)) fits));
+          let w = message-within c laws key hk t sealed hs in
+          let fits = le-ltb room (length (messageOf t c key sealed)) (omega (arith, w, h)) in
+          chain (checked t c key sealed room nz hk hs)
+          (right-or-refused (tagSame t c key sealed room) (unpaddedText t c key sealed room) (messageOf t c key sealed) _
+          (by-contents t c key sealed room nz hk hs ∙ ap (λ (b : Bool). contents (tagSame t c key sealed room) (unpaddedText t c key sealed room) b (messageOf t c key sealed)) fits));
       lent-any = λ key sealed room nz hk hs.
-        chain (checked t c key sealed room nz hk hs)
-        (right-or-six (tagSame t c key sealed room) (unpaddedText t c key sealed room) (tooShort room (length (messageOf t c key sealed))) (messageOf t c key sealed) _
-        (by-contents t c key sealed room nz hk hs));
+          chain (checked t c key sealed room nz hk hs)
+          (right-or-six (tagSame t c key sealed room) (unpaddedText t c key sealed room) (tooShort room (length (messageOf t c key sealed))) (messageOf t c key sealed) _
+          (by-contents t c key sealed room nz hk hs));
     }

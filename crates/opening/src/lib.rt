@@ -4,6 +4,7 @@
 mod rows; // rows.rt: the rows that stand before 6
 mod check; // check.rt: the first pass, for the tag and the last block
 mod message; // message.rt: the padding, and the second pass, which writes
+
 use mode::Written;
 use mode::finish::Finish;
 ghost use mathlib.Core.Path.{_≡_};

@@ -67,13 +67,13 @@ pub(crate) fn release(
     ensures output { λ _. ⌜ now (out .exit) ≡ (released (frontOf (keyOf (now (keys .entry))) (bytesOf start) (now (text .entry)) ++ last) (length (now (out .entry)))) .output ⌝ }
 {
     let end = message_end(last);
+    let length = text.len() - 16 + end;
     if end == 16 {
         return Written {
             refusal: 7,
             length: 0,
         };
     }
-    let length = text.len() - 16 + end;
     if out.len() < length {
         return Written {
             refusal: 5,

@@ -78,8 +78,7 @@ returns c =
     let m = front .ensures .masked ∙ ap (λ (z : Pass). z .mask) p in
     let q : ran Open (keyOf (a .keys .now)) (firstBlocks 1 (padded (take (length text - (length text - 16)) (drop (length text - 16) text)))) (bytesOf (front .result .mask)) zeroBlock ≡ ran Open key (drop (length text - 16) text ∷ []) ((pass aes ciphertext key (blocksOf (take (length text - 16) text)) start zeroBlock) .mask) zeroBlock =
     λ i. ran Open (k i) (last-taken text h _ (back-is (length text - 16) text) i) (m i) zeroBlock in
-    let w = all-written 16 _ (zeros 16) (end .last .1 .1 .1 .1 .1 .0) refl (end .ensures .written) ∙ ap (λ (z : Pass). z .output) q in
-    (
+    let w = all-written 16 _ (zeros 16) (end .last .1 .1 .1 .1 .1 .0) refl (end .ensures .written) ∙ ap (λ (z : Pass). z .output) q in (
       record {
         tagged =
             c .tag .ensures
@@ -91,7 +90,7 @@ returns c =
         opened = ap (λ (x : List ℕ). frontOf key start text ++ x) w ∙ plaintext-whole text h key start hk hm;
         long = end .kept .1 .1 .1 .1 .1 .0;
       },
-      none-written ((ran Check (keyOf (a .keys .now)) (firstBlocks ((length text - 16) / 16) (padded text)) start zeroBlock) .output) (a .out .now) (front .last .1 .1 .1 .1 .1 .0) (front .ensures .long) (front .ensures .written)
+      none-written ((ran Check (keyOf (a .keys .now)) (firstBlocks ((length text - 16) / 16) (padded text)) start zeroBlock) .output) (a .out .now) (front .last .1 .1 .1 .1 .1 .0) (front .ensures .long) (front .ensures .written),
     )
 
 pub check-spec : {M : Type 1} → statement M

@@ -26,6 +26,12 @@ last-long c = search needs
 front-size : (c : tie.Start) → length (frontOf (keyOf (c .args .keys .now)) (bytesOf (c .args .start)) (c .args .text .now)) ≡ length (c .args .text .now) - 16
 front-size c = front-long (c .args .text .now) (c .pre .1 .0) (keyOf (c .args .keys .now)) (bytesOf (c .args .start)) (c .pre .0 .size) (block-bytesOf (c .args .start) .long)
 
+sub-length : tie.Need-sub-length
+sub-length c = search needs
+
+add-length : tie.Need-add-length
+add-length c = let s = c .before .before .before in record { fits = omega (arith, c .message-end .ensures, end-within (s .args .last) (last-long s), s .pre .1 .0 .least, s .good) }
+
 returns : tie.Need-returns
 returns c =
     let s = c .before .before .before .before in
@@ -33,12 +39,6 @@ returns c =
     let w = front-whole (a .text .now) (s .pre .1 .0) (keyOf (a .keys .now)) (bytesOf (a .start)) (s .pre .0 .size) (block-bytesOf (a .start) .long) in
     let r = nothing-released (frontOf (keyOf (a .keys .now)) (bytesOf (a .start)) (a .text .now)) (a .last) (length (a .out .now)) w (last-long s) (sym (c .before .message-end .ensures) ∙ c .if1 .taken) in
     (r .0, s .pre .1 .1 .zero ∙ r .1)
-
-sub-length : tie.Need-sub-length
-sub-length c = search needs
-
-add-length : tie.Need-add-length
-add-length c = let s = c .before .before .before .before in record { fits = omega (arith, c .before .message-end .ensures, end-within (s .args .last) (last-long s), s .pre .1 .0 .least, s .good) }
 
 returns-2 : tie.Need-returns-2
 returns-2 c =
@@ -72,4 +72,4 @@ returns-3 c =
     (ap (λ (k : ℕ). writtenGiven (k + m .result)) (sym n) ∙ r .0, c .before .before .write .ensures ∙ ap (λ (k : ℕ). front ++ take (m .result) (a .last) ++ zeros (length (a .out .now) - (k + m .result))) (sym n) ∙ r .1)
 
 pub release-spec : {M : Type 1} → statement M
-release-spec = tie.close (tie.spec message-end-requires returns sub-length add-length returns-2 write-requires same-length returns-3)
+release-spec = tie.close (tie.spec message-end-requires sub-length add-length returns returns-2 write-requires same-length returns-3)
