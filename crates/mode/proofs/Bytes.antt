@@ -143,16 +143,16 @@ parts-whole t sealed h =
 
 -- ---- padding undone
 
-zeros-at : (n i : ℕ) → _≡_ {A = ℕ} (getD (replicate n 0) i 0) 0
+pub zeros-at : (n i : ℕ) → _≡_ {A = ℕ} (getD (replicate n 0) i 0) 0
 zeros-at zero i = refl
 zeros-at (suc n) zero = refl
 zeros-at (suc n) (suc i) = zeros-at n i
 
-mark-at : (m : List ℕ) → getD (padded m) (length m) 0 ≡ 0x80
+pub mark-at : (m : List ℕ) → getD (padded m) (length m) 0 ≡ 0x80
 unfolding padded
 mark-at m = getD-append-seam m 0x80 (replicate (15 - length m % 16) 0) 0
 
-zero-past : (m : List ℕ) (i : ℕ) → length m < i → getD (padded m) i 0 ≡ 0
+pub zero-past : (m : List ℕ) (i : ℕ) → length m < i → getD (padded m) i 0 ≡ 0
 unfolding padded
 zero-past m i h =
     let e : i ≡ length m + suc (i - length m - 1) = omega arith in

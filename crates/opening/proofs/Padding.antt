@@ -3,41 +3,31 @@ use mathlib.Core.Path.{_≡_, refl, sym, ap, ap₂, _∙_}
 use mathlib.Core.Bool.{Bool, true, false}
 use mathlib.Core.List.{List, [], _∷_, _++_}
 use mathlib.Core.Option.{Option, some, none as no-message}
-use Prim.Native.Nat.{ℕ, zero, suc, _+_, _*_, _-_, _/_, _%_, _≤_, _<_}
+use Prim.Native.Nat.{ℕ, suc, _+_, _*_, _-_, _/_, _%_, _≤_, _<_}
 use native.Mathlib.Omega.{arith}
 use borrow.Author.Tests.{ltb-true, ltb-false}
 use lib.Dec.{ltb}
 use lib.ListN.{length, take, drop, getD, length-append, length-drop, take-append-drop}
-use lib.Seq.{getD-append-seam, getD-append-add, getD-drop, drop-cons, drop-length, split-at, take-at, drop-at, length-take-le}
+use lib.Seq.{getD-drop, drop-cons, drop-length, split-at, take-at, drop-at, length-take-le}
 use Rattle.blocks.specs.Bytes.{zeros}
 use Rattle.mode.specs.Mode.{padded}
 use Rattle.mode.specs.Calls.{unpadFrom, unpadded}
 use Rattle.mode.proofs.Blocks.{length-padded, padded-append}
-use Rattle.mode.proofs.Bytes.{unpad-sound, unpad-complete}
+use Rattle.mode.proofs.Bytes.{zeros-at, mark-at, zero-past, unpad-sound, unpad-complete}
 use Rattle.opening.specs.Work.{endBy, messageEnd}
 
 -- ---- the mark 80 and the zeros behind it
 
-zero-at : (n i : ℕ) → getD (zeros n) i 0 ≡ 0
-zero-at zero i = refl
-zero-at (suc n) zero = refl
-zero-at (suc n) (suc i) = zero-at n i
-
 zero-from : (text : List ℕ) (e n j : ℕ) → drop e text ≡ zeros n → e ≤ j → getD text j 0 ≡ 0
 zero-from text e n j z h =
-    ap (λ (k : ℕ). getD text k 0) (let q : j ≡ e + (j - e) = omega arith in q) ∙ sym (getD-drop e text (j - e) 0) ∙ ap (λ (l : List ℕ). getD l (j - e) 0) z ∙ zero-at n (j - e)
+    ap (λ (k : ℕ). getD text k 0) (let q : j ≡ e + (j - e) = omega arith in q) ∙ sym (getD-drop e text (j - e) 0) ∙ ap (λ (l : List ℕ). getD l (j - e) 0) z ∙ zeros-at n (j - e)
 
 module _ (text m : List ℕ) (p : padded m ≡ text) where
-  mark-at : getD text (length m) 0 ≡ 0x80
-  unfolding padded
-  mark-at = ap (λ (l : List ℕ). getD l (length m) 0) (sym p) ∙ getD-append-seam m 0x80 (zeros (15 - length m % 16)) 0
+  mark-there : getD text (length m) 0 ≡ 0x80
+  mark-there = ap (λ (l : List ℕ). getD l (length m) 0) (sym p) ∙ mark-at m
 
   zero-after : (j : ℕ) → length m < j → getD text j 0 ≡ 0
-  unfolding padded
-  zero-after j h =
-      ap₂ (λ (l : List ℕ) (k : ℕ). getD l k 0) (sym p) (let q : j ≡ length m + suc (j - suc (length m)) = omega arith in q)
-      ∙ getD-append-add m (0x80 ∷ zeros (15 - length m % 16)) (suc (j - suc (length m))) 0
-      ∙ zero-at (15 - length m % 16) (j - suc (length m))
+  zero-after j h = ap (λ (l : List ℕ). getD l j 0) (sym p) ∙ zero-past m j h
 
   -- a byte in front of zeros that is neither 80 nor 0: nothing was padded
   pub other-byte : (e n : ℕ) → drop (suc e) text ≡ zeros n → (getD text e 0 ≡ 0x80 → ⊥) → (getD text e 0 ≡ 0 → ⊥) → ⊥
@@ -46,18 +36,18 @@ module _ (text m : List ℕ) (p : padded m ≡ text) where
       by : (s t : Bool) → ltb e (length m) ≡ s → ltb (length m) e ≡ t → ⊥
       by true t a b =
           let o = zero-from text (suc e) n (length m) z (let q : e < length m = ltb-true e (length m) a in omega arith) in
-          let q : _≡_ {A = ℕ} 0x80 0 = sym mark-at ∙ o in
+          let q : _≡_ {A = ℕ} 0x80 0 = sym mark-there ∙ o in
           omega arith
       by false true a b = k (zero-after e (ltb-true (length m) e b))
       by false false a b =
           let q : e ≡ length m = (let u : length m ≤ e = ltb-false e (length m) a in let v : e ≤ length m = ltb-false (length m) e b in omega arith) in
-          h (ap (λ (j : ℕ). getD text j 0) q ∙ mark-at)
+          h (ap (λ (j : ℕ). getD text j 0) q ∙ mark-there)
 
   -- nor where all is zero
   pub all-zero : (n : ℕ) → text ≡ zeros n → ⊥
   all-zero n z =
       let o = zero-from text 0 n (length m) z (omega arith) in
-      let q : _≡_ {A = ℕ} 0x80 0 = sym mark-at ∙ o in
+      let q : _≡_ {A = ℕ} 0x80 0 = sym mark-there ∙ o in
       omega arith
 
   pub found : unpadded text ≡ some m
