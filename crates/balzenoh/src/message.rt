@@ -50,7 +50,7 @@ pub extern "C" fn balzenoh_seal_sha1(
     seal_with(Finish::Sha1, key, iv, message, out, length)
 }
 
-// OPEN a sealed record, with either finish.
+// OPEN a sealed record, with either finish. An output as long as the message is enough.
 fn open_with(finish: Finish, key: &[u8], sealed: &[u8], out: &mut [u8], length: &mut usize) -> u8
     ensures { λ n. ⌜ Reported (openSealed (finishNamed finish) aes (now (key .entry)) (now (sealed .entry)) (lengthOf (now (out .entry)))) n (now (length .exit)) (now (out .exit)) ⌝ }
 {

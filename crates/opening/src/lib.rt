@@ -16,7 +16,7 @@ ghost use Rattle.mode.specs.Table.{firstRow};
 ghost use Rattle.mode.specs.Calls.{openSealed, writtenOf};
 ghost use Rattle.opening.specs.Work.{openFirstRows};
 
-// All bytes of the tag are compared before anything is written.
+// The tag is compared, all its bytes, before the padding is looked at and before anything is written.
 fn open_into(finish: Finish, key: &[u8], sealed: &[u8], out: &mut [u8]) -> Written
     requires { ⌜ firstRow (openFirstRows (finishNamed finish) (now key) (now sealed)) ≡ 0 ⌝ }
     requires { ⌜ Fresh (now out) ⌝ }
@@ -40,7 +40,8 @@ fn open_into(finish: Finish, key: &[u8], sealed: &[u8], out: &mut [u8]) -> Writt
     crate::message::release(start, &keys, text, last, out)
 }
 
-// OPEN a sealed record under a key: the message is written to the front of the output, which has to be as long as the message and no longer.
+// OPEN a sealed record under a key: the message is written to the front of the output. As many bytes as the message has are enough; nothing is
+// written before tag and padding were found right.
 pub fn open(finish: Finish, key: &[u8], sealed: &[u8], out: &mut [u8]) -> Written
     ensures answer { λ a. ⌜ a ≡ writtenOf (openSealed (finishNamed finish) aes (now (key .entry)) (now (sealed .entry)) (length (now (out .entry)))) ⌝ }
     ensures output { λ _. ⌜ now (out .exit) ≡ (openSealed (finishNamed finish) aes (now (key .entry)) (now (sealed .entry)) (length (now (out .entry)))) .output ⌝ }
