@@ -52,13 +52,26 @@ static void call_seal(draw *d) {
     both_seal(by, k, v, bytes_of(message, len), draw_room(d, len / 16 * 16 + 16 + reference_around(by)));
 }
 
-/* Opens what is in the buffer. What was sealed by one finish is rarely opened by the other. */
-static void open_buffer(draw *d, enum finish by, size_t len) {
+/* The length of an output to open into: none, about the ciphertext's, or about the message's. */
+static size_t draw_open_room(draw *d, size_t message_len, size_t text_len) {
+    switch (draw_below(d, 8)) {
+    case 5:
+        return 0;
+    case 6:
+    case 7:
+        return draw_room(d, text_len);
+    default:
+        return draw_room(d, message_len);
+    }
+}
+
+/* Opens what is in the buffer, which has a message of that length where it opens. What was sealed by one finish is rarely opened by the other. */
+static void open_buffer(draw *d, enum finish by, size_t len, size_t message_len) {
     slice k = draw_key(d);
     if (draw_rarely(d, 16))
         by = other_finish(by);
     size_t around = reference_around(by);
-    both_open(by, k, bytes_of(buffer, len), draw_room(d, len < around ? 0 : len - around));
+    both_open(by, k, bytes_of(buffer, len), draw_open_room(d, message_len, len < around ? 0 : len - around));
 }
 
 /* A record as the mode gives it, perhaps damaged, perhaps of a wrong length. */
@@ -71,7 +84,7 @@ static void call_open(draw *d) {
     text[len] = 0x80;
     reference_seal_text(by, key, key_len, iv, text, blocks, buffer);
     maybe_damage(d, buffer, sealed);
-    open_buffer(d, by, draw_about(d, sealed));
+    open_buffer(d, by, draw_about(d, sealed), len);
 }
 
 /* A text that ends as drawn, with no padding added: the tag is right, the padding mostly wrong. */
@@ -85,7 +98,7 @@ static void call_open_unpadded(draw *d) {
     text[place] ^= draw_rarely(d, 2) ? draw_byte(d) : 0x80;
     text[other] ^= draw_rarely(d, 4) ? draw_byte(d) : 0;
     reference_seal_text(by, key, key_len, iv, text, len / 16, buffer);
-    open_buffer(d, by, len + reference_around(by));
+    open_buffer(d, by, len + reference_around(by), place);
 }
 
 /* Any bytes, of any length near those that opening takes, by the hash four bytes longer; rarely with one block more than it takes. */
@@ -93,7 +106,7 @@ static void call_open_noise(draw *d) {
     enum finish by = draw_finish(d);
     size_t len = draw_rarely(d, 32) ? 16 * (LIMIT + 1) + reference_around(by) : draw_length(d) + (by == BY_HASH ? 4 : 0);
     memcpy(buffer, message, len);
-    open_buffer(d, by, len);
+    open_buffer(d, by, len, len);
 }
 
 /* ---- runs */
@@ -303,7 +316,7 @@ static void finish_cut(enum finish by, size_t len, size_t text) {
     both_test(by, k, v, bytes_of(records, RECORD), bytes_of(buffer + 16 + text, tag));
     both_seal(by, k, v, bytes_of(message, len), sealed);
     must_be_same("a list sealed in runs", buffer, answer, sealed);
-    both_open(by, k, bytes_of(buffer, sealed), text);
+    both_open(by, k, bytes_of(buffer, sealed), len);
     must_be_same("a list sealed in runs and opened", answer, message, len);
 }
 

@@ -261,6 +261,7 @@ static size_t ciphertext_length(enum finish by, size_t sealed_len) {
     return sealed_len - around;
 }
 
+/* As ticket P6 has it: 5 comes last, and compares the output with the message. */
 uint8_t reference_open(enum finish by, const uint8_t *key, size_t key_len, const uint8_t *sealed, size_t sealed_len,
                        uint8_t *out, size_t out_len, size_t *length) {
     static uint8_t text[16 * LIMIT];
@@ -276,8 +277,6 @@ uint8_t reference_open(enum finish by, const uint8_t *key, size_t key_len, const
     poly mask = step_1(&k, key, key_len, sealed);
     if (is_zero(mask))
         return 10;
-    if (out_len < text_len)
-        return 5;
     poly pre = open_blocks(&k.rounds, &mask, sealed + 16, text_len / 16, text);
     write_tag(by, &k, pre, mask, tag);
     if (memcmp(tag, sealed + 16 + text_len, reference_tag_length(by)) != 0)
@@ -285,6 +284,8 @@ uint8_t reference_open(enum finish by, const uint8_t *key, size_t key_len, const
     size_t end = message_length(text, text_len);
     if (end == text_len)
         return 7;
+    if (out_len < end)
+        return 5;
     memcpy(out, text, end);
     *length = end;
     return 0;

@@ -171,6 +171,16 @@ fn the_library_takes_what_the_pages_say() {
     assert!(figure(&printed, "jump").expect("a figure") < 1_024);
 }
 
+/// The reference in C, with outputs of every size.
+#[test]
+fn the_reference_in_c_opens_as_the_library_does() {
+    if !present("cc") {
+        return;
+    }
+    let printed = told(&run(&Checkout::new("rooms"), "fuzz/run", &["--rooms"]));
+    assert!(printed.starts_with("opened ") && printed.ends_with("no difference\n"), "{printed}");
+}
+
 #[test]
 fn the_example_in_c_runs() {
     if !present("gcc") || !present("g++") {

@@ -21,6 +21,7 @@ mod keys;
 #[cfg(not(bare_cipher))]
 mod no_bare_cipher;
 mod opening;
+mod opening_rooms;
 mod runs;
 mod sealing;
 mod secrets;

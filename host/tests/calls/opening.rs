@@ -17,7 +17,9 @@ fn every_length_with_every_room() {
         let sealed = Mode::<Fips197>::new(&key, &iv).seal_blocks(finish, &iv, &padded(&message));
         for room in rooms_around(length / 16 * 16 + 16) {
             let answer = bench.check(&Call::Open { finish, key: &key, sealed: &sealed, room });
-            assert!(matches!(answer.number, 5 | 10) || answer.out.starts_with(&message));
+            let number = if room < length { 5 } else { 0 };
+            assert!(answer.number == 10 || answer.number == number);
+            assert!(answer.number != 0 || answer.out.starts_with(&message));
         }
     }
     bench.finish();
@@ -48,7 +50,8 @@ fn every_size_around_the_edges() {
     bench.finish();
 }
 
-/// The right tag under any last block: refused with 7, unless the block happens to be padded.
+/// The right tag under any last block: refused with 7, unless the block happens to be padded. The output ends somewhere about the
+/// last block.
 #[test]
 fn every_end_of_a_list() {
     let mut bench = Bench::new(plan::OPENING_ENDS);
@@ -58,11 +61,12 @@ fn every_end_of_a_list() {
         let mut blocks = random_blocks(&mut bench.random);
         blocks.extend(likely_end(&mut bench.random));
         let sealed = Mode::<Fips197>::new(&key, &iv).seal_blocks(finish, &iv, &blocks);
-        let answer = bench.check(&Call::Open { finish, key: &key, sealed: &sealed, room: blocks.len() });
+        let room = blocks.len() + 2 - bench.random.below(19);
+        let answer = bench.check(&Call::Open { finish, key: &key, sealed: &sealed, room });
         found[usize::from(answer.number)] += 1;
     }
-    println!("ends of lists: {} messages, {} refused with 7, {} with 10", found[0], found[7], found[10]);
-    assert!(found[0] > 1_000 && found[7] > 1_000 && found[10] > 1_000);
+    println!("ends of lists: {} messages, {} refused with 5, {} with 7, {} with 10", found[0], found[5], found[7], found[10]);
+    assert!([0, 5, 7, 10].into_iter().all(|number| found[number] > 1_000));
     bench.finish();
 }
 

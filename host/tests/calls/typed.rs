@@ -32,6 +32,12 @@ fn whole_messages_come_back() {
         assert_eq!(lent, [&sealed[..], &[0; 3]].concat());
         assert_eq!(open_into_with(finish, &key, &sealed, &mut back), Ok(length));
         assert_eq!(back[..length], message);
+        let mut exact = random.bytes(length);
+        assert_eq!(open_into_with(finish, &key, &sealed, &mut exact), Ok(length));
+        assert_eq!(exact, message);
+        if let Some(short) = length.checked_sub(1) {
+            assert_eq!(open_into_with(finish, &key, &sealed, &mut exact[..short]), Err(Refusal::OutputTooShort));
+        }
     }
 }
 

@@ -38,13 +38,14 @@ fn names_may_be_as_long_as_names_are() {
 fn check_answers_as_open_does() {
     let folder = Folder::new("check");
     let list: Vec<u8> = (0..9_000).map(|at| at as u8).collect();
-    let sealed = folder.feed(&["seal", "--key", KEY, "--iv", IV], &list).exits(0).stdout;
+    let [sealed, empty] = [&list[..], b""].map(|list| folder.feed(&["seal", "--key", KEY, "--iv", IV], list).exits(0).stdout);
     let mut damaged = sealed.clone();
     damaged[5_000] ^= 4;
     let unpadded = digits(&[IV, "030F28E63B8A9C570D7FEF31940226F4", "CBBD199D075F7220957FD8205A233B9F"].concat());
     for spread in [&[][..], &["--runs", "7"], &["--threads", "2"], &["--runs=9", "--threads=3"]] {
         let check = [&["check", "--key", KEY][..], spread].concat();
         folder.feed(&check, &sealed).exits(0).prints(b"passes\n");
+        folder.feed(&check, &empty).exits(0).prints(b"passes\n");
         folder.feed(&check, &damaged).exits(6).prints(b"");
         folder.feed(&check, &unpadded).exits(7).prints(b"");
         folder.feed(&check, &sealed[..47]).exits(3).prints(b"");

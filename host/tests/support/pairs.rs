@@ -57,7 +57,7 @@ pub fn one_bit_from_the_key(key: &[u8], at: usize) -> Pair {
 }
 
 /// A pair under which lists are sealed, with a key of this length.
-fn sealing_of(random: &mut Random, length: usize) -> Pair {
+pub fn sealing_of(random: &mut Random, length: usize) -> Pair {
     let (key, no_key) = (random.bytes(length), no_key(random, length));
     match random.below(16) {
         0 => replaced(&key),

@@ -37,7 +37,7 @@ pub const NEAR_NO_MASK: Topic = topic("next to a mask of nothing", 23, 14_000);
 pub const WORDS_JUMPED: Topic = topic("jumping in 64-bit words", 24, 50_000);
 pub const WORDS_JOINED: Topic = topic("joining in 64-bit words", 25, 100_000);
 pub const WORDS_SEALED: Topic = topic("runs and tags in 64-bit words", 26, 15_000);
-pub const GROUPS: Topic = topic("every number of blocks", 27, 6_100);
+pub const GROUPS: Topic = topic("every number of blocks", 27, 7_200);
 pub const GROUPS_DAMAGED: Topic = topic("every block damaged", 28, 13_000);
 pub const LAST_BYTES: Topic = topic("the last bytes of long keys", 29, 5_000);
 pub const WRONG_KEYS: Topic = topic("keys of wrong lengths", 30, 47_000);
@@ -45,11 +45,14 @@ pub const EXTENDED_KEYS: Topic = topic("keys with another before them", 31, 10_0
 pub const DIGESTS: Topic = topic("SHA-1, every length and room", 32, 25_000);
 pub const OTHER_FINISH: Topic = topic("what the other finish made", 33, 3_600);
 pub const TAG_BITS: Topic = topic("every bit of a tag", 34, 5_700);
+pub const OPENING_EVERY_ROOM: Topic = topic("opening into every room", 35, 56_000);
+pub const OPENING_ROOMS: Topic = topic("opening, a short output told last", 36, 21_400);
+pub const OPENING_TAGS: Topic = topic("opening, every bit of a tag", 37, 18_400);
 
 /// How many cuts each of their two topics has.
 pub const CUTS: usize = 12_000;
 
-const ALL: [Topic; 34] = [
+const ALL: [Topic; 37] = [
     SEALING,
     SEALING_EDGES,
     OPENING,
@@ -84,6 +87,9 @@ const ALL: [Topic; 34] = [
     DIGESTS,
     OTHER_FINISH,
     TAG_BITS,
+    OPENING_EVERY_ROOM,
+    OPENING_ROOMS,
+    OPENING_TAGS,
 ];
 
 /// Each topic's test sees that it made its number of calls.

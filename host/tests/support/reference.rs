@@ -21,10 +21,23 @@ struct Given {
 /// The refusal's number is the error.
 type Outcome = Result<Given, u8>;
 
-/// The whole answer: what is given and zeros to each output's end, or nothing but zeros.
+/// The whole answer.
 pub fn answer<C: Cipher>(call: &Call) -> Answer {
+    written(call, outcome::<C>(call))
+}
+
+/// The whole answer by document 01 alone, without ticket P6: only that of opening is another.
+pub fn answer_by_document_01<C: Cipher>(call: &Call) -> Answer {
+    match *call {
+        Call::Open { finish, key, sealed, room } => written(call, open_by_document_01::<C>(finish, key, sealed, room)),
+        _ => answer::<C>(call),
+    }
+}
+
+/// What is given and zeros to each output's end, or nothing but zeros.
+fn written(call: &Call, outcome: Outcome) -> Answer {
     let (room, record_room) = call.rooms();
-    let (number, given) = match outcome::<C>(call) {
+    let (number, given) = match outcome {
         Ok(given) => (0, given),
         Err(number) => (number, Given::default()),
     };
@@ -77,7 +90,7 @@ impl Under<'_> {
     }
 
     /// The mode under them, or 10 where the start mask is still zero after its replacement. To be asked where row 10 stands, just
-    /// before 5 and 6.
+    /// before 5, 6 and 7.
     fn mode<C: Cipher>(self) -> Result<Mode<C>, u8> {
         let mode = Mode::new(self.key, self.iv.try_into().expect("16 bytes"));
         rows(&[(10, mode.start_mask == 0)])?;
@@ -127,17 +140,48 @@ fn seal<C: Cipher>(finish: Finish, under: Under, message: &[u8], room: usize) ->
     Ok(Given { length: out.len(), out, ..Given::default() })
 }
 
+/// A record to open that has passed rows 1, 3 and 10.
+struct ToOpen<'a, C> {
+    finish: Finish,
+    mode: Mode<C>,
+    ciphertext: &'a [u8],
+    tag: &'a [u8],
+}
+
+impl<'a, C: Cipher> ToOpen<'a, C> {
+    fn new(finish: Finish, key: &[u8], sealed: &'a [u8]) -> Result<Self, u8> {
+        rows(&[(1, is_no_key(key))])?;
+        let length = ciphertext_length(finish, sealed.len()).ok_or(3)?;
+        let (iv, rest) = sealed.split_at(16);
+        let (ciphertext, tag) = rest.split_at(length);
+        Ok(Self { finish, mode: Under { key, iv }.mode()?, ciphertext, tag })
+    }
+
+    /// The message, where rows 6 and 7 let it through.
+    fn message(&self) -> Result<Vec<u8>, u8> {
+        let (blocks, preauthenticator) = self.mode.run(0, self.ciphertext, Mode::backward);
+        let tag = self.mode.tag(self.finish, (blocks.len() / 16) as u32, preauthenticator);
+        rows(&[(6, tag != self.tag)])?;
+        Ok(unpadded(&blocks).ok_or(7)?.to_vec())
+    }
+}
+
+fn message_given(message: Vec<u8>) -> Outcome {
+    Ok(Given { length: message.len(), out: message, ..Given::default() })
+}
+
+/// As ticket P6 has it: 5 compares the output with the message, and comes after 7.
 fn open<C: Cipher>(finish: Finish, key: &[u8], sealed: &[u8], room: usize) -> Outcome {
-    rows(&[(1, is_no_key(key))])?;
-    let length = ciphertext_length(finish, sealed.len()).ok_or(3)?;
-    let (iv, rest) = sealed.split_at(16);
-    let (ciphertext, tag) = rest.split_at(length);
-    let mode = Under { key, iv }.mode::<C>()?;
-    rows(&[(5, room < ciphertext.len())])?;
-    let (blocks, preauthenticator) = mode.run(0, ciphertext, Mode::backward);
-    rows(&[(6, mode.tag(finish, (length / 16) as u32, preauthenticator) != tag)])?;
-    let message = unpadded(&blocks).ok_or(7)?;
-    Ok(Given { length: message.len(), out: message.to_vec(), ..Given::default() })
+    let message = ToOpen::<C>::new(finish, key, sealed)?.message()?;
+    rows(&[(5, room < message.len())])?;
+    message_given(message)
+}
+
+/// As document 01 has it: 5 compares the output with the ciphertext, and comes before 6.
+fn open_by_document_01<C: Cipher>(finish: Finish, key: &[u8], sealed: &[u8], room: usize) -> Outcome {
+    let record = ToOpen::<C>::new(finish, key, sealed)?;
+    rows(&[(5, room < record.ciphertext.len())])?;
+    message_given(record.message()?)
 }
 
 fn seal_run<C: Cipher>(under: Under, first: u32, last: bool, bytes: &[u8], rooms: (usize, usize)) -> Outcome {

@@ -75,7 +75,7 @@ impl SealedList {
         let (sealed, tag) = (self.sealed(finish), self.tag(finish));
         [
             Call::Seal { finish, key, iv, message, room: sealed.len() },
-            Call::Open { finish, key, sealed, room: self.ciphertext().len() },
+            Call::Open { finish, key, sealed, room: message.len() },
             Call::Close { finish, key, iv, record, room: tag.len() },
             Call::Test { finish, key, iv, record, tag },
         ]
