@@ -70,8 +70,12 @@
  *
  * An output is lent with its length. On success it has the answer, then zeros up to its end, and
  * `*length` is the number of answer bytes. On a refusal every output of the call is zero from end
- * to end and `*length` is 0; nothing of what was there before, and no plaintext, is left. Inputs are
- * never written.
+ * to end and `*length` is 0; nothing of what was there before is left. Inputs are never written.
+ *
+ * Opening goes over the ciphertext twice: a first pass for tag and padding, and a second one that
+ * writes the message. Until tag and padding were found right, and the output long enough, nothing but
+ * zeros is written to it. A record that is right, but for which too little is lent, costs the first
+ * pass and gets 5.
  *
  * There is no state, no heap and no initialisation: any call may be made from any thread at any
  * time.
@@ -111,8 +115,8 @@
  *
  * REFUSALS
  *
- * Where several hold, the one that stands higher in this table is returned. Each function lists the
- * ones that it can return, in this order.
+ * Where several hold, the one that stands higher in this table is returned; in opening 5 comes after
+ * 7. Each function lists the ones that it can return, in their order.
  *
  *  24  a run record is not 24 bytes, or a list of them no multiple of 24
  *   1  the key is neither 16 nor 32 bytes
@@ -127,8 +131,8 @@
  *   9  the record to be closed or tested does not start at block 0 or has no block; an empty list
  *  10  the start mask is still zero after its replacement. So the first 16 bytes of the key are zeros,
  *      and the IV is the one, under this key, with which each block would go out unmasked
- *   5  an output is shorter than its answer; in balzenoh_open and balzenoh_open_sha1, shorter than the
- *      ciphertext
+ *   5  an output is shorter than its answer. That of balzenoh_open and balzenoh_open_sha1 is the
+ *      message, and 5 is returned there only where tag and padding are right
  *   6  the tag differs
  *   7  the tag is right, but the last block is not padded as above
  */
@@ -165,8 +169,8 @@ extern "C" {
 /* Bytes of the longest text that balzenoh_sha1 takes. */
 #define BALZENOH_LONGEST_TEXT 64032
 
-/* Bytes of a message of n bytes once it is padded: of its ciphertext, and the output that
-   opening it needs. The same for a last run of n bytes. A middle run keeps its length. */
+/* Bytes of a message of n bytes once it is padded: of its ciphertext. The same for a last run of n
+   bytes. A middle run keeps its length. */
 #define BALZENOH_PADDED_LENGTH(n) ((size_t)BALZENOH_BLOCK * ((size_t)(n) / BALZENOH_BLOCK + 1))
 #define BALZENOH_RUN_LENGTH(n, last) ((last) ? BALZENOH_PADDED_LENGTH(n) : (size_t)(n))
 
@@ -205,10 +209,13 @@ uint8_t balzenoh_seal(const uint8_t *key, size_t key_len,
 /*
  * Opens a sealed record.
  *
+ * The output needs the message's length. Where that is not known, lend the ciphertext's, sealed_len -
+ * 32: it always suffices, being 1 to 16 bytes more.
+ *
  * Refusals: 1, 3 (sealed_len below 48, above 64,032 or no multiple of 16), 10 (with the IV that the
- * record starts with), 5 (out_len below sealed_len - 32, the length of the ciphertext), 6, 7.
- * On success out has the message without its padding; *length is the message's length, 1 to 16
- * bytes less than the ciphertext's.
+ * record starts with), 6, 7, 5 (out_len below the message's length).
+ * On success out has the message without its padding; *length is the message's length. An empty
+ * message needs no output. So without any, 5 or 0 says that tag and padding are right.
  */
 uint8_t balzenoh_open(const uint8_t *key, size_t key_len,
                       const uint8_t *sealed, size_t sealed_len,
@@ -229,10 +236,13 @@ uint8_t balzenoh_seal_sha1(const uint8_t *key, size_t key_len,
 /*
  * Opens a sealed record with the hash finish.
  *
+ * The output needs the message's length. Where that is not known, lend the ciphertext's, sealed_len -
+ * 36: it always suffices, being 1 to 16 bytes more.
+ *
  * Refusals: 1, 3 (sealed_len below 52, above 64,036 or not 36 over a multiple of 16), 10 (with the IV
- * that the record starts with), 5 (out_len below sealed_len - 36, the length of the ciphertext), 6, 7.
- * On success out has the message without its padding; *length is the message's length, 1 to 16
- * bytes less than the ciphertext's.
+ * that the record starts with), 6, 7, 5 (out_len below the message's length).
+ * On success out has the message without its padding; *length is the message's length. An empty
+ * message needs no output. So without any, 5 or 0 says that tag and padding are right.
  */
 uint8_t balzenoh_open_sha1(const uint8_t *key, size_t key_len,
                            const uint8_t *sealed, size_t sealed_len,

@@ -5,7 +5,7 @@
 //! threads.
 //!
 //! A list of up to 63,999 bytes is sealed under a key and an IV. Opening gives the list back, or refuses: nothing of a list whose
-//! tag differs is handed out. An IV must not be used twice under one key.
+//! tag differs is handed out, or written to a lent output. An IV must not be used twice under one key.
 //!
 //! ```
 //! use balzenoh::{open, seal, Iv, Key, Refusal};

@@ -48,34 +48,37 @@ pub fn seal_with(finish: Finish, key: &[u8], iv: &[u8], message: &[u8], out: &mu
     with_length(ffi::seal(finish, key, iv, message, out))
 }
 
-/// Opens a sealed record. `out` must have room for the whole ciphertext; the message's length is returned.
+/// Opens a sealed record. `out` must have room for the message, whose length is returned.
 ///
 /// # Errors
 ///
 /// [`KeyLength`](Refusal::KeyLength), [`Length`](Refusal::Length) for a record below 48 bytes, above 64,032 or no multiple of 16,
-/// [`ZeroMask`](Refusal::ZeroMask) with the record's IV, [`OutputTooShort`](Refusal::OutputTooShort),
-/// [`TagDiffers`](Refusal::TagDiffers), [`Padding`](Refusal::Padding).
+/// [`ZeroMask`](Refusal::ZeroMask) with the record's IV, [`TagDiffers`](Refusal::TagDiffers), [`Padding`](Refusal::Padding),
+/// [`OutputTooShort`](Refusal::OutputTooShort).
 ///
 /// ```
 /// use balzenoh::{raw, Refusal};
 ///
 /// let (mut sealed, mut out) = ([0; 48], [0xA5; 16]);
 /// raw::seal(&[7; 16], &[1; 16], b"cage 12", &mut sealed)?;
+/// assert_eq!(raw::open(&[7; 16], &sealed, &mut out[..7]), Ok(7));
+/// assert_eq!(out[..7], *b"cage 12");
 /// assert_eq!(raw::open(&[7; 16], &sealed, &mut out), Ok(7));
 /// assert_eq!(out, *b"cage 12\0\0\0\0\0\0\0\0\0");
+/// assert_eq!(raw::open(&[7; 16], &sealed, &mut out[..6]), Err(Refusal::OutputTooShort));
 /// # Ok::<(), Refusal>(())
 /// ```
 pub fn open(key: &[u8], sealed: &[u8], out: &mut [u8]) -> Result<usize, Refusal> {
     open_with(Finish::Cipher, key, sealed, out)
 }
 
-/// Opens a sealed record with this finish. `out` must have room for the whole ciphertext; the message's length is returned.
+/// Opens a sealed record with this finish. `out` must have room for the message, whose length is returned.
 ///
 /// # Errors
 ///
 /// [`KeyLength`](Refusal::KeyLength), [`Length`](Refusal::Length) for a record that is as long as no record with this finish,
-/// [`ZeroMask`](Refusal::ZeroMask) with the record's IV, [`OutputTooShort`](Refusal::OutputTooShort),
-/// [`TagDiffers`](Refusal::TagDiffers), [`Padding`](Refusal::Padding).
+/// [`ZeroMask`](Refusal::ZeroMask) with the record's IV, [`TagDiffers`](Refusal::TagDiffers), [`Padding`](Refusal::Padding),
+/// [`OutputTooShort`](Refusal::OutputTooShort).
 ///
 /// ```
 /// use balzenoh::{raw, Finish, Refusal};

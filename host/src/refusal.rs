@@ -22,7 +22,7 @@ pub enum Refusal {
     Length,
     /// 4: the blocks reach beyond the limit of 4,000, or a jump does, forward or back.
     BeyondLimit,
-    /// 5: the lent output is shorter than the answer.
+    /// 5: the lent output is shorter than the answer. In opening that is the message, and the tag and the padding are right.
     OutputTooShort,
     /// 6: the tag differs.
     TagDiffers,

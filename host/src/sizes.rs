@@ -68,7 +68,8 @@ pub const fn sealed_room_with(finish: Finish, message: usize) -> usize {
     padded_blocks(message) * BLOCK + around(finish)
 }
 
-/// The room that opening a sealed record needs: that of its ciphertext. A record over the limit gets no room.
+/// The room that always suffices to open a sealed record: that of its ciphertext, 1 to 16 bytes more than the message's, which is
+/// what opening needs. A record over the limit gets no room.
 ///
 /// ```
 /// use balzenoh::sizes::open_room;

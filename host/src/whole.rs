@@ -141,43 +141,59 @@ pub fn open_with(finish: Finish, key: &Key, sealed: &[u8]) -> Result<Vec<u8>, Re
     Ok(out)
 }
 
-/// Opens into a lent output, which needs room for the whole ciphertext, and returns the message's length. All bytes beyond it are
-/// zero; on a refusal all are.
+/// Opens into a lent output, which needs room for the message, and returns the message's length. All bytes beyond it are zero; on a
+/// refusal all are. Nothing of the message is written before tag and padding were found right.
+///
+/// Who does not know the message's length lends [`open_room`](crate::sizes::open_room) of the record, which always suffices.
 ///
 /// # Errors
 ///
-/// Those of [`open`], and [`Refusal::OutputTooShort`] for an output shorter than the ciphertext.
+/// Those of [`open`], and where there are none of those, [`Refusal::OutputTooShort`] for an output shorter than the message.
 ///
 /// ```
+/// use balzenoh::sizes::open_room;
 /// use balzenoh::{open_into, seal, Iv, Key, Refusal};
 ///
-/// let key = Key::from([7; 16]);
-/// let sealed = seal(&key, &Iv::from([1; 16]), b"parcel 4711 -> cage 12")?;
-/// let mut out = [0xA5; 32];
+/// let (key, list) = (Key::from([7; 16]), b"parcel 4711 -> cage 12");
+/// let sealed = seal(&key, &Iv::from([1; 16]), list)?;
+///
+/// // The lists of this board have 22 bytes.
+/// let mut out = [0xA5; 22];
 /// assert_eq!(open_into(&key, &sealed, &mut out), Ok(22));
+/// assert_eq!(out, *list);
 /// assert_eq!(open_into(&Key::from([8; 16]), &sealed, &mut out), Err(Refusal::TagDiffers));
-/// assert_eq!(out, [0; 32]);
+/// assert_eq!(out, [0; 22]);
+/// assert_eq!(open_into(&key, &sealed, &mut out[..21]), Err(Refusal::OutputTooShort));
+///
+/// // A list of any length.
+/// let mut out = vec![0xA5; open_room(sealed.len())];
+/// let length = open_into(&key, &sealed, &mut out)?;
+/// assert_eq!(out[..length], *list);
 /// # Ok::<(), Refusal>(())
 /// ```
 pub fn open_into(key: &Key, sealed: &[u8], out: &mut [u8]) -> Result<usize, Refusal> {
     open_into_with(Finish::Cipher, key, sealed, out)
 }
 
-/// Opens with this finish into a lent output, which needs room for the whole ciphertext, and returns the message's length. All
-/// bytes beyond it are zero; on a refusal all are.
+/// Opens with this finish into a lent output, which needs room for the message, and returns the message's length. All bytes beyond it
+/// are zero; on a refusal all are. Nothing of the message is written before tag and padding were found right.
+///
+/// Who does not know the message's length lends [`open_room_with`](crate::sizes::open_room_with) of finish and record, which always
+/// suffices.
 ///
 /// # Errors
 ///
-/// Those of [`open_with`], and [`Refusal::OutputTooShort`] for an output shorter than the ciphertext.
+/// Those of [`open_with`], and where there are none of those, [`Refusal::OutputTooShort`] for an output shorter than the message.
 ///
 /// ```
 /// use balzenoh::{open_into_with, seal_with, Finish, Iv, Key, Refusal};
 ///
 /// let key = Key::from([7; 16]);
 /// let sealed = seal_with(Finish::Sha1, &key, &Iv::from([1; 16]), b"parcel 4711 -> cage 12")?;
-/// let mut out = [0xA5; 32];
+/// let mut out = [0xA5; 22];
 /// assert_eq!(open_into_with(Finish::Sha1, &key, &sealed, &mut out), Ok(22));
-/// assert_eq!(open_into_with(Finish::Sha1, &key, &sealed, &mut out[..31]), Err(Refusal::OutputTooShort));
+/// assert_eq!(out, *b"parcel 4711 -> cage 12");
+/// assert_eq!(open_into_with(Finish::Sha1, &key, &sealed, &mut out[..21]), Err(Refusal::OutputTooShort));
 /// # Ok::<(), Refusal>(())
 /// ```
 pub fn open_into_with(finish: Finish, key: &Key, sealed: &[u8], out: &mut [u8]) -> Result<usize, Refusal> {

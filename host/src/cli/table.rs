@@ -203,8 +203,8 @@ pub static COMMANDS: [Command; 14] = [
         name: "check",
         summary: "see whether a sealed list opens, and write nothing of it",
         text: "Checks a sealed list: prints `passes` where open would give the list, or refuses as open would. The runs are \
-               checked on the threads and joined, the tag is tested, and then the list is opened in memory, since its end can \
-               be seen in no other way. Nothing of the list is written.",
+               checked on the threads and joined, the tag is tested, and then the list is opened into an output of no bytes, \
+               which shows whether it ends as it must. Nothing of the list is written.",
         options: &[
             key(),
             runs("cut the list into N runs and check each by itself: the same answer"),
