@@ -15,6 +15,27 @@ compile() { # OBJECT SOURCE FLAGS...
     gcc $flags "$@" -I"$here/../include" -c -o "$out/$object.o" "$here/$source.c"
 }
 
+# The number of rounds, which is the script's only argument, if any.
+read_rounds() { # ARGUMENTS...
+    [ $# -le 1 ] || { usage >&2 && exit 64; }
+    case ${1-600} in
+    --help) usage && exit ;;
+    '' | *[!0-9]* | 0*) usage >&2 && exit 64 ;;
+    *) rounds=${1-600} ;;
+    esac
+}
+
+# Archives as one object, with the build's number in front of the names that they export; `names` has the flags by which C calls them so.
+rename_library() { # NUMBER ARCHIVES...
+    number=$1
+    shift
+    ld -r -o "$out/library" --whole-archive "$@"
+    nm -g --defined-only "$out/library" | sed 's/.* //' >"$out/exported"
+    sed "s/.*/& build_${number}_&/" "$out/exported" >"$out/renamed"
+    objcopy --redefine-syms "$out/renamed" "$out/library" "$out/library_$number.o"
+    names=$(sed "s/.*/-D&=build_${number}_&/" "$out/exported")
+}
+
 # The archives of the folder BALZENOH_LIB_DIR; where that is not set they are proved and built with rt.
 find_archives() {
     library='the archives in BALZENOH_LIB_DIR'

@@ -104,7 +104,7 @@ static void call_open_unpadded(draw *d) {
 /* Any bytes, of any length near those that opening takes, by the hash four bytes longer; rarely with one block more than it takes. */
 static void call_open_noise(draw *d) {
     enum finish by = draw_finish(d);
-    size_t len = draw_rarely(d, 32) ? 16 * (LIMIT + 1) + reference_around(by) : draw_length(d) + (by == BY_HASH ? 4 : 0);
+    size_t len = draw_rarely(d, 16) ? 16 * (LIMIT + 1) + reference_around(by) : draw_length(d) + (by == BY_HASH ? 4 : 0);
     memcpy(buffer, message, len);
     open_buffer(d, by, len, len);
 }

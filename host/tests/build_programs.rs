@@ -83,6 +83,53 @@ fn the_benchmark_runs_sha1_and_both_finishes() {
     }
 }
 
+/// One build in both places, since there is no other here. It must open into the message's length.
+#[test]
+fn the_benchmark_runs_opening_before_and_now() {
+    if !["gcc", "ld", "objcopy"].into_iter().all(present) {
+        return;
+    }
+    let checkout = Checkout::new("opening");
+    let before = format!("BALZENOH_BEFORE_DIR={ARCHIVES}");
+    let opening = |arguments: &[&str]| run(&checkout, "env", &[&[&before[..], "bench/opening"], arguments].concat());
+    let printed = told(&opening(&["1"]));
+    for row in ["before", "now", "now, lent the message's length", "now to before", "now to before, tag wrong"] {
+        assert_eq!(printed.matches(&format!("\n  {row}  ")).count(), 2, "{row:?} in {printed}");
+    }
+    assert!(told(&opening(&["--help"])).contains("host/bench/opening [ROUNDS]"));
+    for wrong in [&["ten"][..], &["0"], &[""], &["1", "1"]] {
+        assert_eq!(opening(wrong).status.code(), Some(64), "{wrong:?}");
+    }
+}
+
+/// The crates of a commit are taken, and not those that lie there.
+#[test]
+fn an_earlier_library_is_built_in_a_copy_of_its_crates() {
+    if !present("git") || !present("tar") {
+        return;
+    }
+    let checkout = Checkout::new("earlier");
+    let git = |arguments: &[&str]| {
+        let named = ["-C", "..", "-c", "user.name=tests", "-c", "user.email=tests@localhost"];
+        told(&checkout.run("git", &[&named[..], arguments].concat()))
+    };
+    git(&["init", "--quiet"]);
+    git(&["add", "crates", "crates.txt"]);
+    git(&["commit", "--quiet", "--message", "as it was"]);
+    let commit = git(&["rev-parse", "HEAD"]);
+    checkout.write("top/crates/blocks/src/lib.rt", "as it is");
+    let output = checkout.run("./earlier", &["HEAD"]);
+    told(&output);
+    let folder = String::from_utf8(output.stdout).expect("a name");
+    assert!(Path::new(folder.trim_end()).join("libbalzenoh.a").exists(), "{folder}");
+    let copy = format!("top/target/earlier/{}/crates/blocks/src/lib.rt", commit.trim_end());
+    assert_eq!(fs::read_to_string(checkout.path(&copy)).expect("a source"), "blocks");
+    assert!(told(&checkout.run("./earlier", &["--help"])).contains("host/earlier COMMIT"));
+    for wrong in [&[][..], &["no-such-commit"], &[""], &["HEAD", "HEAD"]] {
+        assert_eq!(checkout.run("./earlier", wrong).status.code(), Some(64), "{wrong:?}");
+    }
+}
+
 /// A face with two engines, the first of them chosen.
 const FACE: &str = "pub const TABLES: u8 = 0;\npub const ARITHMETIC: u8 = 1;\npub const ENGINE: u8 = TABLES;\n";
 
