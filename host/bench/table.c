@@ -19,6 +19,11 @@ static double over_aes(const struct figures *f, int task, int aes, int who) {
     return rate(f, LONG, task, who) / rate(f, LONG, aes, who);
 }
 
+/* Opening goes over the ciphertext twice: once as checking does, and once as AES decrypts. What both take, over what opening takes. */
+static double over_two_passes(const struct figures *f) {
+    return (f->task[LONG][CHECK][OURS] + f->task[LONG][DECRYPT][OURS]) / f->task[LONG][OPEN][OURS];
+}
+
 static void print_rates(const struct figures *f, int size) {
     printf("%zu bytes, MB/s\n", 16 * blocks_of[size]);
     for (int task = 0; task < TASKS; task++) {
@@ -98,6 +103,7 @@ void print_table(const struct figures *f) {
     printf("the mode over bare AES, 64000 bytes (the paper's figure: 0.884)\n");
     print_over_aes(f, SEAL, ENCRYPT);
     print_over_aes(f, OPEN, DECRYPT);
+    printf("  %-22s%10.3f\n", "open over check + AES", over_two_passes(f));
     print_masks(f);
     print_joins(f);
     print_one_join(f);
@@ -116,7 +122,7 @@ void print_expectations(const struct figures *f) {
             expect(what, against(f, size, task, BYTES_O3), 0.95);
         }
     expect("seal over AES encrypt, Balzenoh", over_aes(f, SEAL, ENCRYPT, OURS), 0.95);
-    expect("open over AES decrypt, Balzenoh", over_aes(f, OPEN, DECRYPT, OURS), 0.95);
+    expect("open over check and AES decrypt, Balzenoh", over_two_passes(f), 0.95);
     expect_ns_at_most("jump by 4000, ns", f->far[FORWARD][JUMP], 450);
     expect_ns_at_most("jump by -4000, ns", f->far[BACK][JUMP], 450);
     expect("4000 steps by bytes over jump by 4000", over_jump(f, FORWARD, STEPS_BY_BYTES), 8);
