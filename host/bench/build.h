@@ -2,9 +2,7 @@
 #ifndef BUILD_H
 #define BUILD_H
 
-#include "balzenoh.h"
-
-enum { CIPHER, HASH, FINISHES };
+#include "finishes.h"
 
 struct build {
     const char *name;

@@ -3,8 +3,9 @@
 
        hash ROUNDS
 */
-#include "balzenoh.h"
 #include "expect.h"
+#include "finishes.h"
+#include "input.h"
 #include "sha1.h"
 #include "timing.h"
 
@@ -15,7 +16,6 @@
 enum { LONG_TEXT = 64000, SHORT_TEXT = 48 };
 enum { LONG, SHORT, SIZES };
 enum { OURS, PLAIN, PLAIN_SCALAR, FIVE, FIVE_SCALAR, HASHES };
-enum { CIPHER, HASH, FINISHES };
 enum { SEAL, OPEN, TASKS };
 
 static uint8_t list_key[16], list_iv[16], text[LONG_TEXT], out[BALZENOH_LONGEST_SEALED_SHA1], run[BALZENOH_RUN_RECORD];
@@ -23,7 +23,6 @@ static uint8_t sealed[FINISHES][SIZES][BALZENOH_LONGEST_SEALED_SHA1];
 static size_t length;
 
 static const size_t text_lengths[SIZES] = {LONG_TEXT, SHORT_TEXT}, blocks_of[SIZES] = {LONG_LIST, SHORT_LIST};
-static const size_t around[FINISHES] = {BALZENOH_BLOCK + BALZENOH_TAG, BALZENOH_BLOCK + BALZENOH_TAG_SHA1};
 
 /* The best times, in nanoseconds a call. */
 static struct {
@@ -87,19 +86,8 @@ static work *const closings[FINISHES] = {close_cipher, close_hash};
 
 /* ---- what is worked on, and whether all results are right */
 
-static void must(int holds, const char *what) {
-    if (holds)
-        return;
-    fprintf(stderr, "%s\n", what);
-    exit(1);
-}
-
-static void fill(void) {
-    uint32_t state = 1;
-    for (size_t i = 0; i < sizeof text; i++) {
-        state = 1664525 * state + 1013904223;
-        text[i] = (uint8_t)(state >> 24);
-    }
+static void prepare_input(void) {
+    fill(text, sizeof text);
     for (size_t i = 0; i < 16; i++) {
         list_key[i] = (uint8_t)i;
         list_iv[i] = text[7 * i];
@@ -189,7 +177,7 @@ int main(int count, char **arguments) {
         fprintf(stderr, "usage: hash ROUNDS\n");
         return 2;
     }
-    fill();
+    prepare_input();
     seal_lists();
     for (size_t bytes = 0; bytes <= 200; bytes++)
         compare_digests(bytes);

@@ -5,6 +5,7 @@
        opening ROUNDS
 */
 #include "build.h"
+#include "input.h"
 #include "timing.h"
 
 #include <stdio.h>
@@ -15,11 +16,10 @@ extern const struct build build_1, build_2;
 
 enum { SIZES = 4 };
 static const size_t blocks_of[SIZES] = {4, 32, 256, LONG_LIST};
-static const size_t around[FINISHES] = {BALZENOH_BLOCK + BALZENOH_TAG, BALZENOH_BLOCK + BALZENOH_TAG_SHA1};
 static const char *const finishes[FINISHES] = {"cipher finish", "hash finish"};
 
 enum { BEFORE, NOW, NOW_EXACT, REFUSED_BEFORE, REFUSED_NOW, CHECK, TASKS, OPENED = REFUSED_BEFORE };
-static const char *const names[TASKS] = {"before",           "now",              "now, lent the message's length",
+static const char *const names[TASKS] = {"before", "now", "now, lent the message's length",
                                          "before, tag wrong", "now, tag wrong", "checking a run, now"};
 static double best[FINISHES][TASKS][SIZES];
 
@@ -72,23 +72,6 @@ static void check(const struct contestant *none, size_t blocks) {
 static work *const tasks[TASKS] = {open_before, open_now, open_exactly, refuse_before, refuse_now, check};
 
 /* ---- what is worked on, and whether all results are right */
-
-static void must(int holds, const char *what) {
-    if (holds)
-        return;
-    fprintf(stderr, "%s\n", what);
-    exit(1);
-}
-
-static void fill(void) {
-    uint32_t state = 1;
-    for (size_t i = 0; i < sizeof list; i++) {
-        state = 1664525 * state + 1013904223;
-        list[i] = (uint8_t)(state >> 24);
-    }
-    memcpy(list_key, list + 100, sizeof list_key);
-    memcpy(list_iv, list + 200, sizeof list_iv);
-}
 
 /* The list of this size by this finish: 16 bytes for each block, less one. */
 static void seal_list_at_hand(void) {
@@ -156,7 +139,9 @@ int main(int count, char **arguments) {
         fprintf(stderr, "usage: opening ROUNDS\n");
         return 2;
     }
-    fill();
+    fill(list, sizeof list);
+    memcpy(list_key, list + 100, sizeof list_key);
+    memcpy(list_iv, list + 200, sizeof list_iv);
     for_each_list(seal_list_at_hand);
     for (int round = atoi(arguments[1]); round > 0; round--)
         for_each_list(measure_list_at_hand);

@@ -1,5 +1,7 @@
 #include "work.h"
 
+#include "input.h"
+
 #include <stdio.h>
 #include <stdlib.h>
 #include <string.h>
@@ -13,11 +15,7 @@ const uint8_t *sealed_record(size_t blocks) {
 }
 
 void prepare(void) {
-    uint32_t state = 1;
-    for (size_t i = 0; i < sizeof message; i++) {
-        state = 1664525 * state + 1013904223;
-        message[i] = (uint8_t)(state >> 24);
-    }
+    fill(message, sizeof message);
     for (size_t i = 0; i < sizeof key; i++)
         key[i] = (uint8_t)i;
     for (size_t i = 0; i < sizeof iv; i++)
