@@ -92,12 +92,12 @@
  *  - Its size, and the stack that each call was seen to use, from its caller's frame down, as
  *    host/stack/run printed them, in bytes:
  *
- *      code       23667
+ *      code       23657
  *      constants   1168
  *      variables      0
  *
  *      seal        3200
- *      open        3423
+ *      open        3407
  *      seal_run    3168
  *      check_run   3135
  *      join         388
@@ -107,7 +107,7 @@
  *      jump         244
  *      sha1         640
  *      seal_sha1   3200
- *      open_sha1   3423
+ *      open_sha1   3407
  *      close_sha1  2560
  *      test_sha1   2576
  *
