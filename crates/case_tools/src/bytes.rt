@@ -53,6 +53,13 @@ pub fn flip(bytes: &mut [u8], at: usize, bits: u8) {
     }
 }
 
+// Flips bits of the last of the first `size` bytes.
+pub fn flip_last(bytes: &mut [u8], size: usize, bits: u8) {
+    if 0 < size {
+        flip(bytes, size - 1, bits);
+    }
+}
+
 // ---- run records
 
 // A record whose pre-authenticator is given as bytes.

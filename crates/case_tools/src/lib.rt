@@ -5,6 +5,10 @@ pub mod random; // random.rt: a generator
 pub mod aes; // aes.rt: the cipher, one block at a time
 pub mod paper; // paper.rt: the key and the IV of the mode's paper
 pub mod open; // open.rt: a record opened, and its answer compared
+pub mod file; // file.rt: a data file
+pub mod words; // words.rt: the words and numbers of a line
+pub mod call; // call.rt: one call into an output that held noise
+pub mod table; // table.rt: a table of cases in a data file
 
 // `name: agreed of all`
 pub fn report(name: &[u8], agreed: usize, all: usize) {

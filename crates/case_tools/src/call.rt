@@ -1,0 +1,59 @@
+// One call into an output that held noise, and its answer compared. The functions say whether it is as it should be.
+use crate::bytes::answered;
+use crate::bytes::blank;
+use crate::bytes::of_run;
+use crate::bytes::written;
+use crate::random::noise;
+use mode::RunAnswer;
+use mode::RunRecord;
+use mode::finish::Finish;
+
+// Sealing: the refusal and the length.
+pub fn sealed_into(
+    finish: Finish,
+    key: &[u8],
+    iv: &[u8],
+    message: &[u8],
+    out: &mut [u8],
+    refusal: u8,
+    length: usize,
+) -> bool {
+    noise(out);
+    let w = calls::seal::seal(finish, key, iv, message, out);
+    written(w, refusal, length, out)
+}
+
+// Opening: the message, or a refusal where the message is none.
+pub fn opened_into(
+    finish: Finish,
+    key: &[u8],
+    sealed: &[u8],
+    out: &mut [u8],
+    refusal: u8,
+    message: &[u8],
+) -> bool {
+    noise(out);
+    let w = opening::open(finish, key, sealed, out);
+    answered(w, refusal, message, out)
+}
+
+// Sealing a run, with its record and whatever else the answer has.
+pub fn run_into(
+    key: &[u8],
+    iv: &[u8],
+    first: u32,
+    last: bool,
+    text: &[u8],
+    out: &mut [u8],
+) -> RunAnswer {
+    noise(out);
+    calls::run::seal_run(key, iv, first, last, text, out)
+}
+
+// A record's numbers; a blank record beside a refusal.
+pub fn numbered(run: RunRecord, refusal: u8, first: u32, count: u32) -> bool {
+    if refusal != 0 {
+        return blank(run);
+    }
+    run.first == first && run.count == count
+}

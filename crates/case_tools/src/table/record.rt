@@ -1,0 +1,120 @@
+// Lines that join, close or test records made by hand.
+ghost use Prim.Native.Nat.{_≤_};
+use super::columns::IV;
+use super::columns::KEY;
+use super::columns::NUMBER;
+use super::columns::SPELT;
+use super::keys::ivs;
+use super::keys::keys;
+use crate::bytes::flip_last;
+use crate::bytes::gives_record;
+use crate::bytes::gives_tag;
+use crate::bytes::one_if;
+use crate::bytes::record;
+use crate::bytes::refuses;
+use crate::bytes::refuses_tag;
+use crate::hex::block;
+use crate::words::byte;
+use crate::words::spelt;
+use crate::words::upto;
+use mode::RecordAnswer;
+use mode::RunRecord;
+use mode::TagAnswer;
+use mode::finish::Finish;
+
+// A record whose first block and count stand in a column and the one after it.
+fn made(line: &[u8], n: usize, preauthenticator: [u8; 16]) -> RunRecord
+    requires { ⌜ n ≤ 8 ⌝ }
+{
+    let first = upto(line, n, NUMBER) as u32;
+    let count = upto(line, n + 1, NUMBER) as u32;
+    record(first, count, preauthenticator)
+}
+
+// The pre-authenticators of a record made by hand, and of one on the right of it.
+fn left() -> [u8; 16] {
+    block(b"5BD1E995C6EF3720A54FF53A1F83D9AB")
+}
+
+fn right() -> [u8; 16] {
+    block(b"243F6A8885A308D313198A2E03707344")
+}
+
+// ---- join
+
+// Whether a join gets a refusal, or a record.
+fn joined(a: RecordAnswer, refusal: u8, run: RunRecord) -> bool {
+    if refusal != 0 {
+        return refuses(a, refusal);
+    }
+    gives_record(a, run)
+}
+
+// join FIRST COUNT FIRST COUNT REFUSAL COUNT DIGITS: the count of the joined record, and the digits of its pre-authenticator
+pub fn join(line: &[u8]) -> usize
+    ensures { λ r. ⌜ r ≤ 1 ⌝ }
+{
+    let run = made(line, 1, left());
+    let count = upto(line, 6, NUMBER) as u32;
+    let mut digits = [0u8; SPELT];
+    spelt(line, 7, &mut digits);
+    let all = record(run.first, count, blocks::block::load(&digits, 0));
+    let a = run.join(made(line, 3, right()));
+    one_if(joined(a, byte(line, 5), all))
+}
+
+// empty FIRST COUNT BLOCK: a record stays as it is beside an empty one at its start or its end, whose pre-authenticator is zero.
+pub fn beside_empty(line: &[u8]) -> usize
+    ensures { λ r. ⌜ r ≤ 1 ⌝ }
+{
+    let run = made(line, 1, left());
+    let none = record(upto(line, 3, NUMBER) as u32, 0, [0u8; 16]);
+    if none.first == run.first {
+        return one_if(gives_record(none.join(run), run));
+    }
+    one_if(gives_record(run.join(none), run))
+}
+
+// ---- close
+
+// Whether closing gets a refusal, or a tag.
+fn closed(a: TagAnswer, refusal: u8, tag: &[u8]) -> bool {
+    if refusal != 0 {
+        return refuses_tag(a, refusal);
+    }
+    gives_tag(a, tag)
+}
+
+// close KEY IV FIRST COUNT REFUSAL DIGITS: the digits of the tag
+pub fn close(finish: Finish, zero: bool, line: &[u8]) -> usize
+    ensures { λ r. ⌜ r ≤ 1 ⌝ }
+{
+    let key = upto(line, 1, KEY);
+    let iv = upto(line, 2, IV);
+    let keys = keys(zero);
+    let ivs = ivs(zero, key);
+    let run = made(line, 3, left());
+    let a = tags::record::close(finish, &keys[0..key], &ivs[0..iv], run);
+    let mut tag = [0u8; SPELT];
+    let long = spelt(line, 6, &mut tag);
+    one_if(closed(a, byte(line, 5), &tag[0..long]))
+}
+
+// ---- test
+
+// test KEY IV FIRST COUNT TAG FLIPPED REFUSAL DIGITS: the first TAG bytes of those that the digits spell, with bits of the last one flipped
+pub fn test(finish: Finish, zero: bool, line: &[u8]) -> usize
+    ensures { λ r. ⌜ r ≤ 1 ⌝ }
+{
+    let key = upto(line, 1, KEY);
+    let iv = upto(line, 2, IV);
+    let size = upto(line, 5, SPELT);
+    let keys = keys(zero);
+    let ivs = ivs(zero, key);
+    let mut tag = [0u8; SPELT];
+    spelt(line, 8, &mut tag);
+    flip_last(&mut tag, size, byte(line, 6));
+    let run = made(line, 3, left());
+    let answer = tags::record::test(finish, &keys[0..key], &ivs[0..iv], run, &tag[0..size]);
+    one_if(answer == byte(line, 7))
+}

@@ -1,0 +1,105 @@
+// The words of a line, which spaces part, and the numbers that they spell. Words are counted from 0.
+ghost use Prim.Native.Nat.{_<_, _≤_};
+ghost use lib.ListN.{length};
+use crate::hex::bytes_at;
+
+// Whether a word starts at a place.
+fn starts_at(line: &[u8], at: usize) -> bool
+    requires { ⌜ at < length (now line) ⌝ }
+{
+    if line[at] == b' ' {
+        return false;
+    }
+    if at == 0 {
+        return true;
+    }
+    line[at - 1] == b' '
+}
+
+// Where word n starts. Where the line has no such word it is the line's end.
+pub fn word(line: &[u8], n: usize) -> usize
+    ensures { λ r. ⌜ r ≤ length (now (line .entry)) ⌝ }
+{
+    let mut left = n;
+    let mut i: usize = 0;
+    while i < line.len() {
+        if starts_at(line, i) {
+            if left == 0 {
+                return i;
+            }
+            left -= 1;
+        }
+        i += 1;
+    }
+    line.len()
+}
+
+// ---- numbers
+
+// What stands for a number where there is none, or one of more than ten digits. It is above all lengths and block numbers.
+pub const NO_NUMBER: usize = 10000000000;
+
+// The number of one more digit.
+fn with_digit(number: usize, digit: u8) -> usize {
+    if NO_NUMBER / 10 <= number {
+        return NO_NUMBER;
+    }
+    if digit < b'0' {
+        return NO_NUMBER;
+    }
+    if b'9' < digit {
+        return NO_NUMBER;
+    }
+    number * 10 + (digit - b'0') as usize
+}
+
+// The number whose digits start at a place and end before a space or with the line.
+pub fn number_at(line: &[u8], at: usize) -> usize {
+    if line.len() <= at {
+        return NO_NUMBER;
+    }
+    let mut number: usize = 0;
+    let mut i = at;
+    while i < line.len() {
+        if line[i] == b' ' {
+            return number;
+        }
+        let next = with_digit(number, line[i]);
+        number = next;
+        i += 1;
+    }
+    number
+}
+
+// The number that word n spells.
+pub fn number(line: &[u8], n: usize) -> usize {
+    number_at(line, word(line, n))
+}
+
+// The same, or `most` where it is more.
+pub fn upto(line: &[u8], n: usize, most: usize) -> usize
+    ensures { λ r. ⌜ r ≤ most ⌝ }
+{
+    let r = number(line, n);
+    if r < most { r } else { most }
+}
+
+// The same as a byte.
+pub fn byte(line: &[u8], n: usize) -> u8 {
+    upto(line, n, 255) as u8
+}
+
+// ---- digits
+
+// The bytes that the digits from word n to the line's end spell, to the front of an output, and how many they are. Those that have no room are left out.
+pub fn spelt(line: &[u8], n: usize, out: &mut [u8]) -> usize
+    ensures { λ r. ⌜ r ≤ length (now (out .exit)) ⌝ }
+{
+    let at = word(line, n);
+    let long = (line.len() - at) / 2;
+    if out.len() < long {
+        return 0;
+    }
+    bytes_at(line, at, long, out);
+    long
+}
