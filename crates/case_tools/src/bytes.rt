@@ -16,6 +16,15 @@ pub fn one_if(agreed: bool) -> usize
 
 // ---- bytes
 
+// The first n bytes of a slice. Where it has not so many, all.
+pub fn front(s: &[u8], n: usize) -> &[u8] {
+    if n <= s.len() { &s[0..n] } else { s }
+}
+
+pub fn front_mut(s: &mut [u8], n: usize) -> &mut [u8] {
+    if n <= s.len() { &mut s[0..n] } else { s }
+}
+
 // Whether a slice begins with other bytes.
 pub fn starts_with(s: &[u8], front: &[u8]) -> bool {
     if s.len() < front.len() {

@@ -2,9 +2,14 @@
 // `group` part the cases into groups; empty lines and those that start with # say nothing.
 ghost use Prim.Native.Nat.{_≤_};
 ghost use lib.ListN.{length};
+use crate::bytes::front;
 use crate::bytes::starts_with;
 use crate::report;
+use crate::words::number;
 use columns::is_call;
+use keys::iv_beside;
+use keys::keys;
+use keys::lengthened;
 use mode::finish::Finish;
 
 mod columns; // columns.rt: the columns of a case
@@ -18,46 +23,55 @@ mod jump; // jump.rt: a line that jumps a mask
 
 // ---- one case
 
-fn of_message(finish: Finish, zero: bool, line: &[u8]) -> usize
+fn of_opening(finish: Finish, key: &[u8], iv: [u8; 16], line: &[u8]) -> usize
+    ensures { λ r. ⌜ r ≤ 1 ⌝ }
+{
+    if is_call(line, b"noise ", b"krrb") {
+        return open::noisy(finish, key, iv, line);
+    }
+    if is_call(line, b"record ", b"krbrbd") {
+        return open::given(finish, key, line);
+    }
+    if is_call(line, b"opened ", b"kkbtrb") {
+        return open::message(finish, key, line);
+    }
+    if is_call(line, b"blocks ", b"kkbtrbd") {
+        return open::blocks(finish, key, line);
+    }
+    0
+}
+
+fn of_text(finish: Finish, key: &[u8], iv: &[u8], line: &[u8]) -> usize
     ensures { λ r. ⌜ r ≤ 1 ⌝ }
 {
     if is_call(line, b"seal ", b"kitrbr") {
-        return message::seal(finish, zero, line);
+        return message::seal(finish, key, iv, line);
     }
-    if is_call(line, b"noise ", b"krrb") {
-        return open::noisy(finish, zero, line);
-    }
-    if is_call(line, b"record ", b"krbrbd") {
-        return open::given(finish, zero, line);
-    }
-    if is_call(line, b"opened ", b"kkbtrb") {
-        return open::message(finish, line);
-    }
-    if is_call(line, b"blocks ", b"kkbtrbd") {
-        return open::blocks(finish, line);
-    }
-    0
-}
-
-fn of_run(zero: bool, line: &[u8]) -> usize
-    ensures { λ r. ⌜ r ≤ 1 ⌝ }
-{
     if is_call(line, b"middle ", b"kintrbn") {
-        return run::seal(zero, false, line);
+        return run::seal(key, iv, false, line);
     }
     if is_call(line, b"last ", b"kintrbn") {
-        return run::seal(zero, true, line);
+        return run::seal(key, iv, true, line);
     }
     if is_call(line, b"check ", b"kintbn") {
-        return run::check(zero, line);
-    }
-    if is_call(line, b"jump ", b"kskbd") {
-        return jump::jump(line);
+        return run::check(key, iv, line);
     }
     0
 }
 
-fn of_record(finish: Finish, zero: bool, line: &[u8]) -> usize
+fn of_record(finish: Finish, key: &[u8], iv: &[u8], line: &[u8]) -> usize
+    ensures { λ r. ⌜ r ≤ 1 ⌝ }
+{
+    if is_call(line, b"close ", b"kinnbd") {
+        return record::close(finish, key, iv, line);
+    }
+    if is_call(line, b"test ", b"kinnkbbd") {
+        return record::test(finish, key, iv, line);
+    }
+    0
+}
+
+fn of_no_key(line: &[u8]) -> usize
     ensures { λ r. ⌜ r ≤ 1 ⌝ }
 {
     if is_call(line, b"join ", b"nnnnbnd") {
@@ -66,26 +80,37 @@ fn of_record(finish: Finish, zero: bool, line: &[u8]) -> usize
     if is_call(line, b"empty ", b"nnn") {
         return record::beside_empty(line);
     }
-    if is_call(line, b"close ", b"kinnbd") {
-        return record::close(finish, zero, line);
-    }
-    if is_call(line, b"test ", b"kinnkbbd") {
-        return record::test(finish, zero, line);
+    if is_call(line, b"jump ", b"kskbd") {
+        return jump::jump(line);
     }
     0
+}
+
+// The key's length stands in the first column of most lines, the IV's in the next.
+fn with_key(finish: Finish, key: &[u8], iv: [u8; 16], line: &[u8]) -> usize
+    ensures { λ r. ⌜ r ≤ 1 ⌝ }
+{
+    if of_opening(finish, key, iv, line) == 1 {
+        return 1;
+    }
+    let ivs = lengthened(iv);
+    let lent = front(&ivs, number(line, 2));
+    if of_text(finish, key, lent, line) == 1 {
+        return 1;
+    }
+    of_record(finish, key, lent, line)
 }
 
 // One where the call gets what the line says. A line that is no case gets none.
 fn case(finish: Finish, zero: bool, line: &[u8]) -> usize
     ensures { λ r. ⌜ r ≤ 1 ⌝ }
 {
-    if of_message(finish, zero, line) == 1 {
+    if of_no_key(line) == 1 {
         return 1;
     }
-    if of_run(zero, line) == 1 {
-        return 1;
-    }
-    of_record(finish, zero, line)
+    let keys = keys(zero);
+    let key = number(line, 1);
+    with_key(finish, front(&keys, key), iv_beside(zero, key), line)
 }
 
 // ---- all cases

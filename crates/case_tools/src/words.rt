@@ -76,17 +76,15 @@ pub fn number(line: &[u8], n: usize) -> usize {
     number_at(line, word(line, n))
 }
 
-// The same, or `most` where it is more.
-pub fn upto(line: &[u8], n: usize, most: usize) -> usize
-    ensures { λ r. ⌜ r ≤ most ⌝ }
-{
+// The same as a byte, and as a number of 32 bits. Where it has more, the most.
+pub fn byte(line: &[u8], n: usize) -> u8 {
     let r = number(line, n);
-    if r < most { r } else { most }
+    if r < 255 { r as u8 } else { 255 }
 }
 
-// The same as a byte.
-pub fn byte(line: &[u8], n: usize) -> u8 {
-    upto(line, n, 255) as u8
+pub fn number32(line: &[u8], n: usize) -> u32 {
+    let r = number(line, n);
+    if r < 0xFFFFFFFF { r as u32 } else { 0xFFFFFFFF }
 }
 
 // ---- digits

@@ -3,12 +3,14 @@ ghost use Prim.Native.Nat.{_≤_};
 use super::columns::KEY;
 use super::columns::SPELT;
 use crate::bytes::answered;
+use crate::bytes::front;
+use crate::bytes::front_mut;
 use crate::bytes::one_if;
 use crate::random::noise;
 use crate::words::byte;
+use crate::words::number;
 use crate::words::number_at;
 use crate::words::spelt;
-use crate::words::upto;
 use crate::words::word;
 
 // Whether a jump gets a refusal, or a mask.
@@ -37,18 +39,16 @@ fn back(blocks: usize) -> i32
 fn jumps(line: &[u8], distance: i32) -> usize
     ensures { λ r. ⌜ r ≤ 1 ⌝ }
 {
-    let size = upto(line, 1, KEY);
-    let room = upto(line, 3, KEY);
     let mask = [5u8; KEY];
     let mut out = [0u8; KEY];
     let mut answer = [0u8; SPELT];
     let long = spelt(line, 5, &mut answer);
     jumped(
-        &mask[0..size],
+        front(&mask, number(line, 1)),
         distance,
-        &mut out[0..room],
+        front_mut(&mut out, number(line, 3)),
         byte(line, 4),
-        &answer[0..long],
+        front(&answer, long),
     )
 }
 

@@ -1,6 +1,4 @@
 // The keys and the IVs of a table, to be cut to any length up to theirs.
-ghost use mathlib.Core.Path.{_≡_};
-ghost use lib.ListN.{length};
 use crate::aes::decrypt;
 use crate::hex::bytes_at;
 use crate::paper;
@@ -29,13 +27,13 @@ fn iv_of_zeros(key: usize) -> [u8; 16] {
     decrypt(&zeros[0..16], [0u8; 16])
 }
 
-pub fn iv(zero: bool, key: usize) -> [u8; 16] {
+pub fn iv_beside(zero: bool, key: usize) -> [u8; 16] {
     if zero { iv_of_zeros(key) } else { paper::iv() }
 }
 
 // An IV in front of zeros.
-pub fn ivs(zero: bool, key: usize) -> [u8; 32] {
+pub fn lengthened(iv: [u8; 16]) -> [u8; 32] {
     let mut r = [0u8; 32];
-    blocks::block::store(&mut r, 0, iv(zero, key));
+    blocks::block::store(&mut r, 0, iv);
     r
 }

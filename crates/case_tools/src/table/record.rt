@@ -1,12 +1,8 @@
 // Lines that join, close or test records made by hand.
 ghost use Prim.Native.Nat.{_≤_};
-use super::columns::IV;
-use super::columns::KEY;
-use super::columns::NUMBER;
 use super::columns::SPELT;
-use super::keys::ivs;
-use super::keys::keys;
 use crate::bytes::flip_last;
+use crate::bytes::front;
 use crate::bytes::gives_record;
 use crate::bytes::gives_tag;
 use crate::bytes::one_if;
@@ -15,8 +11,9 @@ use crate::bytes::refuses;
 use crate::bytes::refuses_tag;
 use crate::hex::block;
 use crate::words::byte;
+use crate::words::number;
+use crate::words::number32;
 use crate::words::spelt;
-use crate::words::upto;
 use mode::RecordAnswer;
 use mode::RunRecord;
 use mode::TagAnswer;
@@ -26,9 +23,7 @@ use mode::finish::Finish;
 fn made(line: &[u8], n: usize, preauthenticator: [u8; 16]) -> RunRecord
     requires { ⌜ n ≤ 8 ⌝ }
 {
-    let first = upto(line, n, NUMBER) as u32;
-    let count = upto(line, n + 1, NUMBER) as u32;
-    record(first, count, preauthenticator)
+    record(number32(line, n), number32(line, n + 1), preauthenticator)
 }
 
 // The pre-authenticators of a record made by hand, and of one on the right of it.
@@ -55,10 +50,13 @@ pub fn join(line: &[u8]) -> usize
     ensures { λ r. ⌜ r ≤ 1 ⌝ }
 {
     let run = made(line, 1, left());
-    let count = upto(line, 6, NUMBER) as u32;
     let mut digits = [0u8; SPELT];
     spelt(line, 7, &mut digits);
-    let all = record(run.first, count, blocks::block::load(&digits, 0));
+    let all = record(
+        run.first,
+        number32(line, 6),
+        blocks::block::load(&digits, 0),
+    );
     let a = run.join(made(line, 3, right()));
     one_if(joined(a, byte(line, 5), all))
 }
@@ -68,7 +66,7 @@ pub fn beside_empty(line: &[u8]) -> usize
     ensures { λ r. ⌜ r ≤ 1 ⌝ }
 {
     let run = made(line, 1, left());
-    let none = record(upto(line, 3, NUMBER) as u32, 0, [0u8; 16]);
+    let none = record(number32(line, 3), 0, [0u8; 16]);
     if none.first == run.first {
         return one_if(gives_record(none.join(run), run));
     }
@@ -86,35 +84,25 @@ fn closed(a: TagAnswer, refusal: u8, tag: &[u8]) -> bool {
 }
 
 // close KEY IV FIRST COUNT REFUSAL DIGITS: the digits of the tag
-pub fn close(finish: Finish, zero: bool, line: &[u8]) -> usize
+pub fn close(finish: Finish, key: &[u8], iv: &[u8], line: &[u8]) -> usize
     ensures { λ r. ⌜ r ≤ 1 ⌝ }
 {
-    let key = upto(line, 1, KEY);
-    let iv = upto(line, 2, IV);
-    let keys = keys(zero);
-    let ivs = ivs(zero, key);
-    let run = made(line, 3, left());
-    let a = tags::record::close(finish, &keys[0..key], &ivs[0..iv], run);
+    let a = tags::record::close(finish, key, iv, made(line, 3, left()));
     let mut tag = [0u8; SPELT];
     let long = spelt(line, 6, &mut tag);
-    one_if(closed(a, byte(line, 5), &tag[0..long]))
+    one_if(closed(a, byte(line, 5), front(&tag, long)))
 }
 
 // ---- test
 
 // test KEY IV FIRST COUNT TAG FLIPPED REFUSAL DIGITS: the first TAG bytes of those that the digits spell, with bits of the last one flipped
-pub fn test(finish: Finish, zero: bool, line: &[u8]) -> usize
+pub fn test(finish: Finish, key: &[u8], iv: &[u8], line: &[u8]) -> usize
     ensures { λ r. ⌜ r ≤ 1 ⌝ }
 {
-    let key = upto(line, 1, KEY);
-    let iv = upto(line, 2, IV);
-    let size = upto(line, 5, SPELT);
-    let keys = keys(zero);
-    let ivs = ivs(zero, key);
-    let mut tag = [0u8; SPELT];
-    spelt(line, 8, &mut tag);
-    flip_last(&mut tag, size, byte(line, 6));
-    let run = made(line, 3, left());
-    let answer = tags::record::test(finish, &keys[0..key], &ivs[0..iv], run, &tag[0..size]);
-    one_if(answer == byte(line, 7))
+    let size = number(line, 5);
+    let mut digits = [0u8; SPELT];
+    spelt(line, 8, &mut digits);
+    flip_last(&mut digits, size, byte(line, 6));
+    let tag = front(&digits, size);
+    one_if(tags::record::test(finish, key, iv, made(line, 3, left()), tag) == byte(line, 7))
 }
