@@ -1,12 +1,22 @@
 // One call into an output that held noise, and its answer compared. The functions say whether it is as it should be.
+ghost use Prim.Native.Nat.{_≤_};
 use crate::bytes::answered;
 use crate::bytes::blank;
-use crate::bytes::of_run;
 use crate::bytes::written;
 use crate::random::noise;
 use mode::RunAnswer;
 use mode::RunRecord;
 use mode::finish::Finish;
+
+// The bytes of a tag.
+pub fn tag_length(finish: Finish) -> usize
+    ensures { λ r. ⌜ r ≤ 20 ⌝ }
+{
+    match finish {
+        Finish::Cipher => 16,
+        Finish::Sha1 => 20,
+    }
+}
 
 // Sealing: the refusal and the length.
 pub fn sealed_into(

@@ -1,10 +1,10 @@
 // A table of cases in a data file. A line is a case: the name of a call, numbers and digits, and what the call gets. Lines that start with
 // `group` part the cases into groups; empty lines and those that start with # say nothing.
 ghost use Prim.Native.Nat.{_≤_};
-ghost use lib.ListN.{length};
 use crate::bytes::front;
 use crate::bytes::starts_with;
 use crate::report;
+use crate::words::line_end;
 use crate::words::number;
 use columns::is_call;
 use keys::iv_beside;
@@ -114,21 +114,6 @@ fn case(finish: Finish, zero: bool, line: &[u8]) -> usize
 }
 
 // ---- all cases
-
-// Where a line ends.
-fn line_end(text: &[u8], at: usize) -> usize
-    requires { ⌜ at ≤ length (now text) ⌝ }
-    ensures { λ r. ⌜ (at ≤ r) × (r ≤ length (now (text .entry))) ⌝ }
-{
-    let mut i = at;
-    while i < text.len() {
-        if text[i] == b'\n' {
-            return i;
-        }
-        i += 1;
-    }
-    text.len()
-}
 
 // How many cases a line has: one, or none where it says nothing.
 fn cases_of(line: &[u8]) -> usize

@@ -16,6 +16,21 @@ fn starts_at(line: &[u8], at: usize) -> bool
     line[at - 1] == b' '
 }
 
+// Where the line that starts at a place ends: before a line feed, or with the text.
+pub fn line_end(text: &[u8], at: usize) -> usize
+    requires { ⌜ at ≤ length (now text) ⌝ }
+    ensures { λ r. ⌜ (at ≤ r) × (r ≤ length (now (text .entry))) ⌝ }
+{
+    let mut i = at;
+    while i < text.len() {
+        if text[i] == b'\n' {
+            return i;
+        }
+        i += 1;
+    }
+    text.len()
+}
+
 // Where word n starts. Where the line has no such word it is the line's end.
 pub fn word(line: &[u8], n: usize) -> usize
     ensures { λ r. ⌜ r ≤ length (now (line .entry)) ⌝ }
@@ -89,12 +104,25 @@ pub fn number32(line: &[u8], n: usize) -> u32 {
 
 // ---- digits
 
-// The bytes that the digits from word n to the line's end spell, to the front of an output, and how many they are. Those that have no room are left out.
-pub fn spelt(line: &[u8], n: usize, out: &mut [u8]) -> usize
-    ensures { λ r. ⌜ r ≤ length (now (out .exit)) ⌝ }
+// Where the word that starts at a place ends.
+fn word_end(line: &[u8], at: usize) -> usize
+    requires { ⌜ at ≤ length (now line) ⌝ }
+    ensures { λ r. ⌜ (at ≤ r) × (r ≤ length (now (line .entry))) ⌝ }
 {
+    let mut i = at;
+    while i < line.len() {
+        if line[i] == b' ' {
+            return i;
+        }
+        i += 1;
+    }
+    line.len()
+}
+
+// The bytes that the digits of word n spell, to the front of an output, and how many they are. Where they have no room they are none.
+pub fn spelt(line: &[u8], n: usize, out: &mut [u8]) -> usize {
     let at = word(line, n);
-    let long = (line.len() - at) / 2;
+    let long = (word_end(line, at) - at) / 2;
     if out.len() < long {
         return 0;
     }

@@ -2,13 +2,13 @@
 ghost use mathlib.Core.Path.{_≡_};
 ghost use Prim.Native.Nat.{_≤_};
 ghost use lib.ListN.{length};
-use crate::reference;
 use case_tools::bytes::NO_ANSWER;
 use case_tools::bytes::flip;
 use case_tools::bytes::one_if;
 use case_tools::hex::bytes_at;
 use case_tools::open::answers;
 use case_tools::paper;
+use case_tools::reference;
 use mode::RecordAnswer;
 use mode::finish::Finish;
 
@@ -78,8 +78,9 @@ fn test(key: [u8; 16], sealed: &[u8]) -> u8
 pub fn undamaged() -> usize {
     let whole = sealed();
     let key = paper::key();
-    reference::seals(&key, paper::iv(), b"twenty bytes of list", &whole)
-        + reference::opens(&key, b"twenty bytes of list", &whole)
+    let message = b"twenty bytes of list";
+    reference::seals(Finish::Cipher, &key, message, &whole)
+        + reference::opens(Finish::Cipher, &key, &whole, 0, message)
         + one_if(test(key, &whole) == 0)
 }
 

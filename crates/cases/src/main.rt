@@ -1,11 +1,11 @@
 // The paper's vectors, reference records, cuts and damage, run against the proved library. Each line says how many cases of a group
 // agreed.
-ghost use Prim.Native.Nat.{_≤_};
+use case_tools::reference::run_file;
 use case_tools::report;
+use mode::finish::Finish;
 
 mod paper; // paper.rt: the vectors of the mode's paper
 mod sums; // sums.rt: what the paper prints between the others
-mod reference; // reference.rt: records that a second program sealed
 mod cut; // cut.rt: blocks cut into runs
 mod cuts; // cuts.rt: seeded messages, whole and in runs
 mod damage; // damage.rt: a record with each bit flipped
@@ -32,28 +32,11 @@ fn report_long_key() {
     );
 }
 
-fn report_reference(text: &[u8], size: usize)
-    requires { ⌜ size ≤ 32 ⌝ }
-{
-    let agreed = reference::run(text, size);
+fn report_reference(path: &[u8]) {
+    let agreed = run_file(Finish::Cipher, path);
     report(b"reference records, sealed", agreed.sealed, 128);
     report(b"reference records, opened", agreed.opened, 128);
     report(b"reference records, tested", agreed.tested, 128);
-}
-
-// A file of records under keys of `size` bytes.
-fn run_file(path: &[u8], size: usize)
-    requires { ⌜ size ≤ 32 ⌝ }
-{
-    let file = os::open_read(path);
-    if file < 0 {
-        os::fail(path);
-        return;
-    }
-    let mut buffer = io::large_buffer();
-    let n = io::read_full(file, &mut buffer);
-    libc::close(file);
-    report_reference(&buffer[..n], size);
 }
 
 // ---- cuts, damage
@@ -77,9 +60,9 @@ fn main() {
     report_paper();
     report_long_key();
     io::write_all(1, b"keys of 16 bytes\n");
-    run_file(b"sealed.txt", 16);
+    report_reference(b"sealed.txt");
     io::write_all(1, b"keys of 32 bytes\n");
-    run_file(b"sealed256.txt", 32);
+    report_reference(b"sealed256.txt");
     io::write_all(1, b"cuts and damage\n");
     report_cuts();
     report_damage();

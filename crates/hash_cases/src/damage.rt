@@ -1,10 +1,11 @@
 // A record of one block with each of its bits flipped in turn: the line of the file with a key of 16 bytes and a message of 10.
 ghost use Prim.Native.Nat.{_≤_};
-use crate::reference::opens;
-use crate::reference::tests;
 use case_tools::bytes::flip;
 use case_tools::hex::block;
 use case_tools::hex::bytes_at;
+use case_tools::reference::opens;
+use case_tools::reference::tests;
+use mode::finish::Finish;
 
 fn key() -> [u8; 16] {
     block(b"41FFF2BA9E187E81863C4B56E4D50FD6")
@@ -23,7 +24,7 @@ fn sealed() -> [u8; 52] {
 
 // As it is, the tag passes.
 pub fn undamaged() -> usize {
-    tests(&key(), &sealed(), 0)
+    tests(Finish::Sha1, &key(), &sealed(), 0)
 }
 
 // ---- a bit flipped
@@ -41,9 +42,9 @@ fn gets_6(bit: usize, opened: bool) -> usize
     let key = key();
     let changed = with_bit(bit);
     if opened {
-        return opens(&key, &changed, 6, b"");
+        return opens(Finish::Sha1, &key, &changed, 6, b"");
     }
-    tests(&key, &changed, 6)
+    tests(Finish::Sha1, &key, &changed, 6)
 }
 
 // Each bit in turn, from one on.

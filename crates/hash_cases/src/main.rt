@@ -1,31 +1,18 @@
 // The hash finish (ticket P4), run against the proved library. Each line says how many cases of a group agreed.
+use case_tools::reference::run_file as run_records;
 use case_tools::report;
+use case_tools::table::run_file as run_table;
+use mode::finish::Finish;
 
-mod case; // case.rt: one call into an output that held noise
 mod made; // made.rt: a record of the mode's paper and one made by hand
-mod reference; // reference.rt: records that a second program sealed
-mod lengths; // lengths.rt: the lengths of records, tags and outputs
 mod other; // other.rt: the other finish's records and tags
 mod damage; // damage.rt: a record with each bit flipped
-mod zero_mask; // zero_mask.rt: a start mask of zero
 
-fn report_reference(text: &[u8]) {
-    let agreed = reference::run(text);
+fn report_reference() {
+    let agreed = run_records(Finish::Sha1, b"sealed.txt");
     report(b"reference records, sealed", agreed.sealed, 64);
     report(b"reference records, opened", agreed.opened, 64);
     report(b"reference records, tested", agreed.tested, 64);
-}
-
-fn run_file(path: &[u8]) {
-    let file = os::open_read(path);
-    if file < 0 {
-        os::fail(path);
-        return;
-    }
-    let mut buffer = io::large_buffer();
-    let n = io::read_full(file, &mut buffer);
-    libc::close(file);
-    report_reference(&buffer[..n]);
 }
 
 fn report_made(key: &[u8], iv: [u8; 16]) {
@@ -38,18 +25,9 @@ fn report_made(key: &[u8], iv: [u8; 16]) {
     );
 }
 
-fn report_lengths(key: &[u8], iv: [u8; 16]) {
-    report(b"refusal 3, records", lengths::records(key, iv), 8);
-    report(b"refusal 3, tags", lengths::tags(key, iv), 5);
-    report(b"lengths that pass", lengths::that_pass(key, iv), 7);
-    report(b"outputs of sealing", lengths::outputs(key, iv), 8);
-    report(b"the longest message", lengths::longest(key, iv), 2);
-}
-
 fn report_others(key: &[u8], iv: [u8; 16]) {
     report(b"the other finish, records", other::records(key, iv), 4);
     report(b"the other finish, tags", other::tags(key, iv), 4);
-    report(b"refusal 10", zero_mask::refused(), 16);
 }
 
 fn report_damage() {
@@ -66,8 +44,9 @@ fn main() {
     let key = case_tools::paper::key();
     let iv = case_tools::paper::iv();
     report_made(&key, iv);
-    run_file(b"sealed.txt");
-    report_lengths(&key, iv);
+    report_reference();
+    run_table(Finish::Sha1, false, b"lengths.txt");
     report_others(&key, iv);
+    run_table(Finish::Sha1, true, b"zero_mask.txt");
     report_damage();
 }

@@ -1,10 +1,10 @@
 // The records and the tags of one finish, handed to the other: they are refused for their length, and for their bytes where they are given
 // the length.
 ghost use Prim.Native.Nat.{_≤_};
-use crate::case::opened_into;
-use crate::case::sealed_into;
 use crate::made;
 use case_tools::bytes::one_if;
+use case_tools::call::opened_into;
+use case_tools::call::sealed_into;
 use mode::finish::Finish;
 
 // A message of 11 bytes, sealed with one finish into a record of `long` bytes. The record, cut to `size` bytes or with zeros up to them, is opened

@@ -31,15 +31,3 @@ pub fn found() -> usize {
         + is_found(&zeros, block(b"67671CE1FA91DDEB0F8FBBB366B531B4"))
         + is_found(&half, block(b"2F2F1823901D914B8ABD3A4A09B20EB2"))
 }
-
-// The IV of the zero key of this length, in front of zeros, to be cut to any length up to 32. Where no key has this length, that of 16 bytes.
-pub fn ivs(key: usize) -> [u8; 32] {
-    let zeros = [0u8; 32];
-    let mut r = [0u8; 32];
-    if key == 32 {
-        blocks::block::store(&mut r, 0, iv_of(&zeros));
-    } else {
-        blocks::block::store(&mut r, 0, iv_of(&zeros[0..16]));
-    }
-    r
-}

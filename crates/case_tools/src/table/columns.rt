@@ -35,7 +35,7 @@ fn most(kind: u8) -> usize {
     }
 }
 
-// The number in a column, or of digits how many there are.
+// The number in a column. Of digits it is how many there are; they stand last.
 fn held(line: &[u8], n: usize, kind: u8) -> usize {
     if kind == b'd' {
         return line.len() - word(line, n);

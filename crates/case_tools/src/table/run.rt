@@ -14,14 +14,7 @@ use crate::words::number;
 use crate::words::number32;
 
 // middle KEY IV FIRST TEXT ROOM REFUSAL COUNT, last KEY IV FIRST TEXT ROOM REFUSAL COUNT: a refusal, or a ciphertext and a record of COUNT blocks
-fn sealed(
-    key: &[u8],
-    iv: &[u8],
-    last: bool,
-    text: &[u8],
-    out: &mut [u8],
-    line: &[u8],
-) -> usize
+fn sealed(key: &[u8], iv: &[u8], last: bool, text: &[u8], out: &mut [u8], line: &[u8]) -> usize
     ensures { λ r. ⌜ r ≤ 1 ⌝ }
 {
     let first = number32(line, 3);

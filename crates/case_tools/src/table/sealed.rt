@@ -7,19 +7,11 @@ use crate::bytes::of_run;
 use crate::bytes::written;
 use crate::call::run_into;
 use crate::call::sealed_into;
+use crate::call::tag_length;
 use crate::paper;
 use crate::words::NO_NUMBER;
 use mode::TagAnswer;
 use mode::finish::Finish;
-
-fn tag_length(finish: Finish) -> usize
-    ensures { λ r. ⌜ r ≤ 20 ⌝ }
-{
-    match finish {
-        Finish::Cipher => 16,
-        Finish::Sha1 => 20,
-    }
-}
 
 // A message sealed.
 pub fn of_message(finish: Finish, key: &[u8], message: &[u8], out: &mut [u8]) -> usize {
