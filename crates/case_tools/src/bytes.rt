@@ -25,6 +25,25 @@ pub fn front_mut(s: &mut [u8], n: usize) -> &mut [u8] {
     if n <= s.len() { &mut s[0..n] } else { s }
 }
 
+// The bytes of a slice from a place up to another. Where it has no such part, none.
+pub fn part(s: &[u8], from: usize, to: usize) -> &[u8] {
+    if from <= to {
+        if to <= s.len() {
+            return &s[from..to];
+        }
+    }
+    &s[0..0]
+}
+
+pub fn part_mut(s: &mut [u8], from: usize, to: usize) -> &mut [u8] {
+    if from <= to {
+        if to <= s.len() {
+            return &mut s[from..to];
+        }
+    }
+    &mut s[0..0]
+}
+
 // Whether a slice begins with other bytes.
 pub fn starts_with(s: &[u8], front: &[u8]) -> bool {
     if s.len() < front.len() {

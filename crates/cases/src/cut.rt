@@ -1,7 +1,12 @@
 // Blocks cut into runs at random places, in a random order, and their records joined two at a time in a random order.
 ghost use Prim.Native.Nat.{_<_, _≤_};
 use case_tools::bytes::NO_ANSWER;
+use case_tools::bytes::of_run;
+use case_tools::bytes::part;
+use case_tools::bytes::part_mut;
 use case_tools::bytes::record;
+use case_tools::bytes::written;
+use case_tools::call::run_into;
 use case_tools::random::Random;
 use mode::RecordAnswer;
 use mode::RunRecord;
@@ -112,15 +117,10 @@ fn span_of(cut: Cut, i: usize, size: usize, padded: bool) -> Span
 
 // Seals a run into its own part of an output, which it fills.
 fn seal_span(key: [u8; 16], iv: [u8; 16], s: Span, message: &[u8], out: &mut [u8]) -> RecordAnswer {
-    let from = s.from;
-    let to = s.to;
-    let stop = s.stop;
-    if to < from || message.len() < to || stop < from || out.len() < stop {
-        return mode::refused(NO_ANSWER);
-    }
-    let part = &mut out[from..stop];
-    let a = calls::run::seal_run(&key, &iv, s.first, s.last, &message[from..to], part);
-    if a.refusal != 0 || a.length != stop - from {
+    let text = part(message, s.from, s.to);
+    let lent = part_mut(out, s.from, s.stop);
+    let a = run_into(&key, &iv, s.first, s.last, text, lent);
+    if !written(of_run(a), 0, lent.len(), lent) {
         return mode::refused(NO_ANSWER);
     }
     let run = a.run;
@@ -129,12 +129,7 @@ fn seal_span(key: [u8; 16], iv: [u8; 16], s: Span, message: &[u8], out: &mut [u8
 
 // Checks a run of ciphertext.
 fn check_span(key: [u8; 16], iv: [u8; 16], s: Span, text: &[u8]) -> RecordAnswer {
-    let from = s.from;
-    let to = s.to;
-    if to < from || text.len() < to {
-        return mode::refused(NO_ANSWER);
-    }
-    calls::run::check_run(&key, &iv, s.first, &text[from..to])
+    calls::run::check_run(&key, &iv, s.first, part(text, s.from, s.to))
 }
 
 // ---- all runs, in the order of the cut

@@ -7,9 +7,12 @@ use case_tools::bytes::gives_record;
 use case_tools::bytes::gives_tag;
 use case_tools::bytes::of_run;
 use case_tools::bytes::one_if;
+use case_tools::bytes::part;
 use case_tools::bytes::record;
 use case_tools::bytes::same_record;
+use case_tools::bytes::starts_with;
 use case_tools::bytes::written;
+use case_tools::call::run_into;
 use case_tools::hex::block;
 use case_tools::hex::bytes_at;
 use case_tools::paper::iv;
@@ -26,8 +29,7 @@ fn seals(key: &[u8], iv: [u8; 16], text: &[u8], cipher: &[u8], run: RunRecord) -
     ensures { λ r. ⌜ r ≤ 2 ⌝ }
 {
     let mut out = [0u8; 65536];
-    noise(&mut out);
-    let a = calls::run::seal_run(key, &iv, run.first, false, text, &mut out);
+    let a = run_into(key, &iv, run.first, false, text, &mut out);
     one_if(answered(of_run(a), 0, cipher, &out))
         + one_if((a.refusal == 0) & same_record(a.run, run))
 }
@@ -93,9 +95,14 @@ pub fn both_blocks() -> usize {
     );
     let a2 = block(b"663A59D5F6E4C59D291C40AECFE0CE28");
     let tag = block(b"9015A1139FA7EAF7F5AB5D96B9B76820");
-    let all = &text[..];
     let key = key();
-    run_gives(&key, iv(), &all[0..32], &all[16..], record(0, 2, a2))
+    run_gives(
+        &key,
+        iv(),
+        part(&text, 0, 32),
+        part(&text, 16, 48),
+        record(0, 2, a2),
+    )
         + tag_is(&key, iv(), record(0, 2, a2), tag)
 }
 
@@ -194,8 +201,7 @@ fn next_link(before: Link, number: u32) -> Link {
     let text = before.block;
     let left = before.run;
     let mut out = [0u8; 32];
-    noise(&mut out);
-    let sealed = calls::run::seal_run(&key, &iv, number, false, &text, &mut out);
+    let sealed = run_into(&key, &iv, number, false, &text, &mut out);
     let right = sealed.run;
     let joined = left.join(right);
     if !written(of_run(sealed), 0, 16, &out) || joined.refusal != 0 {
@@ -244,21 +250,25 @@ fn chain(text: &mut [u8]) -> RunRecord
 
 // All in one run comes to the same ciphertext and record.
 fn in_one_run(text: &[u8], run: RunRecord) -> usize
-    requires { ⌜ length (now text) ≡ 64016 ⌝ }
     ensures { λ r. ⌜ r ≤ 3 ⌝ }
 {
-    run_gives(&key(), iv(), &text[0..64000], &text[16..], run)
+    run_gives(
+        &key(),
+        iv(),
+        part(text, 0, 64000),
+        part(text, 16, 64016),
+        run,
+    )
 }
 
 // The last ciphertext block, the pre-authenticator and the tag are those of vectors/make-mode-vectors.
 fn as_reference(text: &[u8], run: RunRecord) -> usize
-    requires { ⌜ length (now text) ≡ 64016 ⌝ }
     ensures { λ r. ⌜ r ≤ 4 ⌝ }
 {
     let last = block(b"59DD4F1F25B18419F42BC2093E33E8CF");
     let preauthenticator = block(b"867A5B013621ADB2B7E6877B52CE701D");
     let tag = block(b"0F767B73662D903D8D456D947D7BEFF2");
-    one_if(blocks::block::equal(blocks::block::load(text, 64000), last))
+    one_if(starts_with(part(text, 64000, 64016), &last))
         + one_if(same_record(run, record(0, 4000, preauthenticator)))
         + tag_is(&key(), iv(), run, tag)
 }
