@@ -3,6 +3,7 @@
 ghost use Prim.Native.Nat.{_≤_};
 use crate::bytes::answered;
 use crate::bytes::front;
+use crate::bytes::front_mut;
 use crate::bytes::one_if;
 use crate::call::opened_into;
 use crate::call::tag_length;
@@ -15,10 +16,11 @@ use mode::finish::Finish;
 // The most bytes of a record.
 const SEALED: usize = 192;
 
-// How many lines agreed, by what was tried.
+// How many lines agreed, by what was tried: opened into a long output, and into one of the message's length.
 pub struct Agreed {
     pub sealed: usize,
     pub opened: usize,
+    pub exact: usize,
     pub tested: usize,
 }
 
@@ -40,6 +42,15 @@ pub fn opens(finish: Finish, key: &[u8], sealed: &[u8], refusal: u8, message: &[
 {
     let mut out = [0u8; SEALED];
     one_if(opened_into(finish, key, sealed, &mut out, refusal, message))
+}
+
+// Opening the record into an output of the message's length gives the message.
+pub fn opens_exactly(finish: Finish, key: &[u8], sealed: &[u8], message: &[u8]) -> usize
+    ensures { λ r. ⌜ r ≤ 1 ⌝ }
+{
+    let mut room = [0u8; SEALED];
+    let out = front_mut(&mut room, message.len());
+    one_if(opened_into(finish, key, sealed, out, 0, message))
 }
 
 // Testing a tag against the record of the checked ciphertext gives a refusal, or 0.
@@ -68,11 +79,12 @@ pub fn tests(finish: Finish, key: &[u8], sealed: &[u8], refusal: u8) -> usize
 }
 
 fn compared(finish: Finish, key: &[u8], message: &[u8], sealed: &[u8]) -> Agreed
-    ensures { λ r. ⌜ (r .sealed ≤ 1) × (r .opened ≤ 1) × (r .tested ≤ 1) ⌝ }
+    ensures { λ r. ⌜ (r .sealed ≤ 1) × (r .opened ≤ 1) × (r .exact ≤ 1) × (r .tested ≤ 1) ⌝ }
 {
     Agreed {
         sealed: seals(finish, key, message, sealed),
         opened: opens(finish, key, sealed, 0, message),
+        exact: opens_exactly(finish, key, sealed, message),
         tested: tests(finish, key, sealed, 0),
     }
 }
@@ -98,7 +110,7 @@ fn record(line: &[u8], out: &mut [u8]) -> usize {
 }
 
 fn run_line(finish: Finish, line: &[u8]) -> Agreed
-    ensures { λ r. ⌜ (r .sealed ≤ 1) × (r .opened ≤ 1) × (r .tested ≤ 1) ⌝ }
+    ensures { λ r. ⌜ (r .sealed ≤ 1) × (r .opened ≤ 1) × (r .exact ≤ 1) × (r .tested ≤ 1) ⌝ }
 {
     let mut keys = [0u8; 32];
     let key = spelt(line, 0, &mut keys);
@@ -117,6 +129,7 @@ fn run_line(finish: Finish, line: &[u8]) -> Agreed
 pub fn run(finish: Finish, text: &[u8]) -> Agreed {
     let mut sealed: usize = 0;
     let mut opened: usize = 0;
+    let mut exact: usize = 0;
     let mut tested: usize = 0;
     let mut at: usize = 0;
     while at < text.len() {
@@ -124,12 +137,14 @@ pub fn run(finish: Finish, text: &[u8]) -> Agreed {
         let one = run_line(finish, &text[at..end]);
         sealed += one.sealed;
         opened += one.opened;
+        exact += one.exact;
         tested += one.tested;
         at = end + 1;
     }
     Agreed {
         sealed,
         opened,
+        exact,
         tested,
     }
 }

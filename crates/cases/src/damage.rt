@@ -74,13 +74,14 @@ fn test(key: [u8; 16], sealed: &[u8]) -> u8
     tags::record::test(Finish::Cipher, &key, &iv, joined.run, &tag)
 }
 
-// The record as it is: sealed, opened and tested.
+// The record as it is: sealed, opened, into an output of the message's length too, and tested.
 pub fn undamaged() -> usize {
     let whole = sealed();
     let key = paper::key();
     let message = b"twenty bytes of list";
     reference::seals(Finish::Cipher, &key, message, &whole)
         + reference::opens(Finish::Cipher, &key, &whole, 0, message)
+        + reference::opens_exactly(Finish::Cipher, &key, &whole, message)
         + one_if(test(key, &whole) == 0)
 }
 

@@ -36,6 +36,7 @@ fn report_reference(path: &[u8]) {
     let agreed = run_file(Finish::Cipher, path);
     report(b"reference records, sealed", agreed.sealed, 128);
     report(b"reference records, opened", agreed.opened, 128);
+    report(b"reference records, into their length", agreed.exact, 128);
     report(b"reference records, tested", agreed.tested, 128);
 }
 
@@ -50,7 +51,7 @@ fn report_cuts() {
 }
 
 fn report_damage() {
-    report(b"damage, the record itself", damage::undamaged(), 3);
+    report(b"damage, the record itself", damage::undamaged(), 4);
     report(b"damage, each bit, opened", damage::opened(), 512);
     report(b"damage, each bit, tested", damage::tested(), 512);
     report(b"damage, blocks rearranged", damage::rearranged(), 3);

@@ -12,6 +12,7 @@ fn report_reference() {
     let agreed = run_records(Finish::Sha1, b"sealed.txt");
     report(b"reference records, sealed", agreed.sealed, 64);
     report(b"reference records, opened", agreed.opened, 64);
+    report(b"reference records, into their length", agreed.exact, 64);
     report(b"reference records, tested", agreed.tested, 64);
 }
 

@@ -15,7 +15,7 @@ pub const TEXT: usize = 64016;
 pub const ROOM: usize = 65536;
 
 // The most bytes that a line spells in digits.
-pub const SPELT: usize = 64;
+pub const SPELT: usize = 96;
 
 // The most that a block number or a count may be.
 pub const NUMBER: usize = 0xFFFFFFFF;

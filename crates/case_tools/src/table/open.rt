@@ -98,7 +98,7 @@ pub fn blocks(finish: Finish, key: &[u8], line: &[u8]) -> usize
 {
     let mut text = [0u8; SPELT];
     let long = spelt(line, 7, &mut text);
-    let mut sealed = [0u8; 128];
+    let mut sealed = [0u8; 160];
     let size = of_blocks(finish, key, front(&text, long), &mut sealed);
     again(
         finish,

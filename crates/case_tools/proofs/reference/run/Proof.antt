@@ -6,10 +6,10 @@ use Rattle.case_tools.proofs.reference.run.Statement.{statement}
 use Rattle.case_tools.proofs.reference.run.Tie as tie
 
 abbrev Inv-loop : tie.InvT-loop
-Inv-loop finish text sealed₀ opened₀ tested₀ at₀ sealed opened tested at = (at ≤ length text + 1) × (sealed ≤ at) × (opened ≤ at) × (tested ≤ at)
+Inv-loop finish text sealed₀ opened₀ exact₀ tested₀ at₀ sealed opened exact tested at = (at ≤ length text + 1) × (sealed ≤ at) × (opened ≤ at) × (exact ≤ at) × (tested ≤ at)
 
 abbrev μ-loop : tie.MeasureT-loop
-μ-loop finish text sealed₀ opened₀ tested₀ at₀ sealed opened tested at = (length text + 1) - at
+μ-loop finish text sealed₀ opened₀ exact₀ tested₀ at₀ sealed opened exact tested at = (length text + 1) - at
 
 loop-holds : tie.Need-loop-holds Inv-loop μ-loop
 loop-holds c = search needs
@@ -34,6 +34,9 @@ add-sealed c = search needs
 
 add-opened : tie.Need-add-opened Inv-loop μ-loop
 add-opened c = search needs
+
+add-exact : tie.Need-add-exact Inv-loop μ-loop
+add-exact c = search needs
 
 add-tested : tie.Need-add-tested Inv-loop μ-loop
 add-tested c = search needs
@@ -64,6 +67,7 @@ run-spec =
     run-line-requires
     add-sealed
     add-opened
+    add-exact
     add-tested
     add-at
     loop-less
