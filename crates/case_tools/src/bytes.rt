@@ -44,6 +44,16 @@ pub fn part_mut(s: &mut [u8], from: usize, to: usize) -> &mut [u8] {
     &mut s[0..0]
 }
 
+// The 16 bytes of a slice from a place on. Where it has not so many, zeros.
+pub fn block_from(s: &[u8], at: usize) -> [u8; 16] {
+    if at <= s.len() {
+        if 16 <= s.len() - at {
+            return blocks::block::load(s, at);
+        }
+    }
+    [0u8; 16]
+}
+
 // Whether a slice begins with other bytes.
 pub fn starts_with(s: &[u8], front: &[u8]) -> bool {
     if s.len() < front.len() {

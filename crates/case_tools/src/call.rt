@@ -1,4 +1,4 @@
-// One call into an output that held noise, and its answer compared. The functions say whether it is as it should be.
+// One call into an output that held noise, and what it gave.
 ghost use Prim.Native.Nat.{_≤_};
 use crate::bytes::answered;
 use crate::bytes::blank;
@@ -18,7 +18,7 @@ pub fn tag_length(finish: Finish) -> usize
     }
 }
 
-// Sealing: the refusal and the length.
+// Sealing: whether refusal and length are as they should be.
 pub fn sealed_into(
     finish: Finish,
     key: &[u8],
@@ -33,7 +33,7 @@ pub fn sealed_into(
     written(w, refusal, length, out)
 }
 
-// Opening: the message, or a refusal where the message is none.
+// Opening: whether the answer is the message, or a refusal where the message is none.
 pub fn opened_into(
     finish: Finish,
     key: &[u8],
@@ -47,7 +47,7 @@ pub fn opened_into(
     answered(w, refusal, message, out)
 }
 
-// Sealing a run, with its record and whatever else the answer has.
+// Sealing a run: the answer as it is.
 pub fn run_into(
     key: &[u8],
     iv: &[u8],
@@ -60,10 +60,21 @@ pub fn run_into(
     calls::run::seal_run(key, iv, first, last, text, out)
 }
 
-// A record's numbers; a blank record beside a refusal.
+// Whether a record has these numbers. Beside a refusal it is blank.
 pub fn numbered(run: RunRecord, refusal: u8, first: u32, count: u32) -> bool {
     if refusal != 0 {
         return blank(run);
     }
     run.first == first && run.count == count
+}
+
+// A mask jumped. Where the answer is not as it should be, the mask is zero, and so is each that it jumps to.
+pub fn jumped(mask: [u8; 16], distance: i32) -> [u8; 16] {
+    let mut out = [0u8; 32];
+    noise(&mut out);
+    let w = tags::jump::jump(&mask, distance, &mut out);
+    if written(w, 0, 16, &out) {
+        return blocks::block::load(&out, 0);
+    }
+    [0u8; 16]
 }

@@ -19,7 +19,7 @@ mod sealed; // sealed.rt: records that the library seals
 mod open; // open.rt: lines that open a record
 mod run; // run.rt: lines that seal or check a run
 mod record; // record.rt: lines that join, close or test records
-mod jump; // jump.rt: a line that jumps a mask
+mod jump; // jump.rt: lines that jump a mask
 
 // ---- one case
 
@@ -82,6 +82,9 @@ fn of_no_key(line: &[u8]) -> usize
     }
     if is_call(line, b"jump ", b"kskbd") {
         return jump::jump(line);
+    }
+    if is_call(line, b"mask ", b"dsnsd") {
+        return jump::mask(line);
     }
     0
 }

@@ -102,6 +102,41 @@ pub fn number32(line: &[u8], n: usize) -> u32 {
     if r < 0xFFFFFFFF { r as u32 } else { 0xFFFFFFFF }
 }
 
+// ---- numbers with a sign
+
+// Whether word n starts with a minus.
+pub fn is_negative(line: &[u8], n: usize) -> bool {
+    let at = word(line, n);
+    if at < line.len() {
+        return line[at] == b'-';
+    }
+    false
+}
+
+// The number that word n spells, without its sign.
+pub fn magnitude(line: &[u8], n: usize) -> usize {
+    let at = word(line, n);
+    if is_negative(line, n) {
+        return number_at(line, at + 1);
+    }
+    number_at(line, at)
+}
+
+// The number with its sign. Where it has more than 32 bits, the most.
+pub fn signed(line: &[u8], n: usize) -> i32 {
+    let r = magnitude(line, n);
+    if r == 0 {
+        return 0;
+    }
+    if 0x80000000 < r {
+        return 0x7FFFFFFF;
+    }
+    if is_negative(line, n) {
+        return !((r - 1) as i32);
+    }
+    if r < 0x7FFFFFFF { r as i32 } else { 0x7FFFFFFF }
+}
+
 // ---- digits
 
 // Where the word that starts at a place ends.

@@ -1,13 +1,15 @@
 // Seeded messages: each is sealed whole, sealed in runs and checked in runs, and opened, and all has to come to the same.
 ghost use Prim.Native.Nat.{_<_, _≤_};
-ghost use lib.ListN.{length};
 use crate::cut::cut_of;
 use crate::cut::in_runs;
+use case_tools::bytes::block_from;
+use case_tools::bytes::front;
 use case_tools::bytes::gives_record;
 use case_tools::bytes::gives_tag;
 use case_tools::bytes::one_if;
+use case_tools::bytes::part;
 use case_tools::bytes::starts_with;
-use case_tools::bytes::written;
+use case_tools::call::sealed_into;
 use case_tools::hex::block;
 use case_tools::random::fill;
 use case_tools::random::noise;
@@ -97,22 +99,28 @@ fn nothing() -> Agreed
     }
 }
 
-// All else held to the whole record of a message.
-fn held_to(key: [u8; 16], iv: [u8; 16], seed: u32, message: &[u8], whole: &[u8]) -> Agreed
+// All else held to the whole record of a message, whose tag starts at `stop`.
+fn held_to(
+    key: [u8; 16],
+    iv: [u8; 16],
+    seed: u32,
+    message: &[u8],
+    whole: &[u8],
+    stop: usize,
+) -> Agreed
     requires { ⌜ seed < 1000000 ⌝ }
-    requires { ⌜ 48 ≤ length (now whole) ⌝ }
+    requires { ⌜ 16 ≤ stop ⌝ }
     ensures { λ r. ⌜ (r .sealed ≤ 1) × (r .checked ≤ 1) × (r .opened ≤ 1) ⌝ }
 {
-    let stop = whole.len() - 16;
-    let tags = blocks::block::load(whole, stop);
-    let ends = blocks::block::load(whole, stop - 16);
+    let text = part(whole, 16, stop);
+    let tags = block_from(whole, stop);
     let mut out = [0u8; 6144];
     Agreed {
-        sealed: seals(key, iv, seed + 1, message, &whole[16..stop], tags),
-        checked: checks(key, iv, seed + 1000, &whole[16..stop], tags),
+        sealed: seals(key, iv, seed + 1, message, text, tags),
+        checked: checks(key, iv, seed + 1000, text, tags),
         opened: case_tools::open::answers(&key, whole, &mut out, 0, message),
         tags,
-        ends,
+        ends: block_from(whole, stop - 16),
     }
 }
 
@@ -120,20 +128,13 @@ fn one_message(key: [u8; 16], iv: [u8; 16], seed: u32, message: &[u8]) -> Agreed
     requires { ⌜ seed < 1000000 ⌝ }
     ensures { λ r. ⌜ (r .sealed ≤ 1) × (r .checked ≤ 1) × (r .opened ≤ 1) ⌝ }
 {
+    let stop = message.len() / 16 * 16 + 32;
+    let size = stop + 16;
     let mut sealed = [0u8; 6144];
-    noise(&mut sealed);
-    let w = calls::seal::seal(Finish::Cipher, &key, &iv, message, &mut sealed);
-    if !written(w, 0, message.len() / 16 * 16 + 48, &sealed) {
+    if !sealed_into(Finish::Cipher, &key, &iv, message, &mut sealed, 0, size) {
         return nothing();
     }
-    let size = w.length;
-    if size < 48 {
-        return nothing();
-    }
-    if 6144 < size {
-        return nothing();
-    }
-    held_to(key, iv, seed, message, &sealed[0..size])
+    held_to(key, iv, seed, message, front(&sealed, size), stop)
 }
 
 // ---- the messages

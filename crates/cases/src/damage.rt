@@ -102,28 +102,3 @@ pub fn tested() -> usize {
     }
     agreed
 }
-
-// ---- blocks moved, left out and added
-
-// The record's blocks, by their numbers, in another order get 6.
-fn gets_6(numbers: [usize; 5], count: usize) -> usize
-    requires { ⌜ count ≤ 5 ⌝ }
-    ensures { λ r. ⌜ r ≤ 1 ⌝ }
-{
-    let whole = sealed();
-    let mut changed = [0u8; 80];
-    let mut i: usize = 0;
-    while i < count {
-        let b = blocks::block::load(&whole, numbers[i] % 4 * 16);
-        blocks::block::store(&mut changed, i * 16, b);
-        i += 1;
-    }
-    let key = paper::key();
-    let mut out = [0u8; 96];
-    answers(&key, &changed[0..count * 16], &mut out, 6, b"")
-}
-
-// The ciphertext blocks, 1 and 2, swapped; the second left out; the second twice.
-pub fn rearranged() -> usize {
-    gets_6([0, 2, 1, 3, 0], 4) + gets_6([0, 1, 3, 0, 0], 3) + gets_6([0, 1, 2, 2, 3], 5)
-}

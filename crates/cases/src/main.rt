@@ -1,7 +1,8 @@
 // The paper's vectors, reference records, cuts and damage, run against the proved library. Each line says how many cases of a group
 // agreed.
-use case_tools::reference::run_file;
+use case_tools::reference::run_file as run_records;
 use case_tools::report;
+use case_tools::table::run_file as run_table;
 use mode::finish::Finish;
 
 mod paper; // paper.rt: the vectors of the mode's paper
@@ -17,9 +18,8 @@ fn report_paper() {
     report(b"paper, second vector", paper::second_vector(), 4);
     report(b"paper, both blocks in one run", paper::both_blocks(), 5);
     report(b"paper's rule, 4000 blocks", paper::long_chain(), 7);
-    report(b"paper, masks", paper::masks(), 6);
+    run_table(Finish::Cipher, false, b"masks.txt");
     report(b"paper, sums and encryptions", sums::printed(), 7);
-    report(b"jumps of 1", paper::jumps_of_one(), 6);
     report(b"start mask of zero", paper::zero_start_mask(), 5);
 }
 
@@ -33,7 +33,7 @@ fn report_long_key() {
 }
 
 fn report_reference(path: &[u8]) {
-    let agreed = run_file(Finish::Cipher, path);
+    let agreed = run_records(Finish::Cipher, path);
     report(b"reference records, sealed", agreed.sealed, 128);
     report(b"reference records, opened", agreed.opened, 128);
     report(b"reference records, into their length", agreed.exact, 128);
@@ -54,7 +54,7 @@ fn report_damage() {
     report(b"damage, the record itself", damage::undamaged(), 4);
     report(b"damage, each bit, opened", damage::opened(), 512);
     report(b"damage, each bit, tested", damage::tested(), 512);
-    report(b"damage, blocks rearranged", damage::rearranged(), 3);
+    run_table(Finish::Cipher, false, b"rearranged.txt");
 }
 
 fn main() {

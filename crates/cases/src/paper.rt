@@ -133,59 +133,6 @@ pub fn long_key_zero_start_mask() -> usize {
     one_block(&long_key(), iv, c1, a1, tag)
 }
 
-// ---- masks
-
-// A mask jumped. Where the answer is not as it should be, the mask is zero, and so is each that it jumps to.
-pub fn jumped(mask: [u8; 16], distance: i32) -> [u8; 16] {
-    let mut out = [0u8; 32];
-    noise(&mut out);
-    let w = tags::jump::jump(&mask, distance, &mut out);
-    if written(w, 0, 16, &out) {
-        return blocks::block::load(&out, 0);
-    }
-    [0u8; 16]
-}
-
-// 249 jumps by the same distance.
-fn jumped_far(mask: [u8; 16], distance: i32) -> [u8; 16] {
-    let mut m = mask;
-    let mut left: usize = 249;
-    while left > 0 {
-        let next = jumped(m, distance);
-        m = next;
-        left -= 1;
-    }
-    m
-}
-
-// R2, R1,000,000 and R1,000,001 from R1, and the same ways back.
-pub fn masks() -> usize {
-    let r1 = block(b"FDED29920913A3DA8C9ECA2F0FD434AA");
-    let r2 = block(b"FBDA5324122747B5193D945E1FA869D3");
-    let last = block(b"8F3461728ECD3A7B3D3CC89808967071");
-    let after = block(b"1E68C2E51D9A74F67A799130112CE065");
-    one_if(blocks::block::equal(jumped(r1, 1), r2))
-        + one_if(blocks::block::equal(jumped(jumped_far(r1, 4000), 3999), last))
-        + one_if(blocks::block::equal(jumped(last, 1), after))
-        + one_if(blocks::block::equal(jumped(r2, -1), r1))
-        + one_if(blocks::block::equal(jumped(jumped_far(last, -4000), -3999), r1))
-        + one_if(blocks::block::equal(jumped(after, -1), last))
-}
-
-// Document 01's jumps of 1, by 0, 127 and 128, the last two undone; and by -1, of ticket P1.
-pub fn jumps_of_one() -> usize {
-    let one = block(b"00000000000000000000000000000001");
-    let top = block(b"80000000000000000000000000000000");
-    let reduced = block(b"00000000000000000000000000000087");
-    let divided = block(b"80000000000000000000000000000043");
-    one_if(blocks::block::equal(jumped(one, 0), one))
-        + one_if(blocks::block::equal(jumped(one, 127), top))
-        + one_if(blocks::block::equal(jumped(one, 128), reduced))
-        + one_if(blocks::block::equal(jumped(top, -127), one))
-        + one_if(blocks::block::equal(jumped(reduced, -128), one))
-        + one_if(blocks::block::equal(jumped(one, -1), divided))
-}
-
 // ---- the second vector's rule over 4,000 blocks
 
 // The last ciphertext block, which is the next block of the message, and the record of all blocks so far.

@@ -2,10 +2,10 @@
 // is encrypted to. The sums are of what the calls gave; the encryption is the library's own cipher.
 ghost use Prim.Native.Nat.{_≤_};
 use crate::paper::first_link;
-use crate::paper::jumped;
 use blocks::block::equal;
 use blocks::block::xor;
 use case_tools::bytes::one_if;
+use case_tools::call::jumped;
 use case_tools::hex::block;
 use case_tools::paper::iv;
 use case_tools::paper::key;

@@ -1,14 +1,14 @@
 // The columns of a case, and whether a line has those of a call.
-ghost use Prim.Native.Nat.{_≤_};
 use crate::bytes::starts_with;
-use crate::words::NO_NUMBER;
+use crate::words::is_negative;
+use crate::words::magnitude;
 use crate::words::number;
 use crate::words::word;
 
 // The most bytes of a key, an IV, a message or a run, and a lent output.
 pub const KEY: usize = 64;
 
-pub const IV: usize = 32;
+const IV: usize = 32;
 
 pub const TEXT: usize = 64016;
 
@@ -18,10 +18,10 @@ pub const ROOM: usize = 65536;
 pub const SPELT: usize = 96;
 
 // The most that a block number or a count may be.
-pub const NUMBER: usize = 0xFFFFFFFF;
+const NUMBER: usize = 0xFFFFFFFF;
 
 // The most that a column of a kind may hold: k the length of a key, i of an IV, t of a text, r of an output; n a block number or a count; b a byte, as a
-// refusal; d digits. Others are looked at where they are read.
+// refusal; s a distance; d digits.
 fn most(kind: u8) -> usize {
     match kind {
         b'k' => KEY,
@@ -30,17 +30,30 @@ fn most(kind: u8) -> usize {
         b'r' => ROOM,
         b'n' => NUMBER,
         b'b' => 254,
+        b's' => 0x7FFFFFFF,
         b'd' => SPELT * 2,
-        _ => NO_NUMBER,
+        _ => 0,
     }
 }
 
-// The number in a column. Of digits it is how many there are; they stand last.
-fn held(line: &[u8], n: usize, kind: u8) -> usize {
-    if kind == b'd' {
-        return line.len() - word(line, n);
+// The blocks of a distance. One that goes back may have one more.
+fn blocks(line: &[u8], n: usize) -> usize {
+    let r = magnitude(line, n);
+    if is_negative(line, n) {
+        if 0 < r {
+            return r - 1;
+        }
     }
-    number(line, n)
+    r
+}
+
+// The number in a column. Of digits it is how many there are, with what stands behind them.
+fn held(line: &[u8], n: usize, kind: u8) -> usize {
+    match kind {
+        b's' => blocks(line, n),
+        b'd' => line.len() - word(line, n),
+        _ => number(line, n),
+    }
 }
 
 // Whether each column holds at most what it may.

@@ -1,14 +1,14 @@
 -- One jump less is left at each turn.
 use borrow.Author.Needs.{needs}
 use Prim.Native.Nat.{_≤_}
-use Rattle.cases.proofs.paper.jumped_far.Statement.{statement}
-use Rattle.cases.proofs.paper.jumped_far.Tie as tie
+use Rattle.case_tools.proofs.table.jump.far.Statement.{statement}
+use Rattle.case_tools.proofs.table.jump.far.Tie as tie
 
 abbrev Inv-loop : tie.InvT-loop
-Inv-loop distance m₀ left₀ m left = left ≤ 249
+Inv-loop distance times m₀ left₀ m left = left ≤ times
 
 abbrev μ-loop : tie.MeasureT-loop
-μ-loop distance m₀ left₀ m left = left
+μ-loop distance times m₀ left₀ m left = left
 
 loop-holds : tie.Need-loop-holds Inv-loop μ-loop
 loop-holds c = search needs
@@ -28,7 +28,7 @@ loop-again c = search needs
 returns : tie.Need-returns Inv-loop μ-loop
 returns c = search needs
 
-pub jumped-far-spec : {M : Type 1} → statement M
-jumped-far-spec =
+pub far-spec : {M : Type 1} → statement M
+far-spec =
     tie.close
     (tie.spec Inv-loop μ-loop loop-holds jumped-requires sub-left loop-less loop-again returns)
