@@ -122,6 +122,7 @@ void print_expectations(const struct figures *f) {
             expect(what, against(f, size, task, BYTES_O3), 0.95);
         }
     expect("seal over AES encrypt, Balzenoh", over_aes(f, SEAL, ENCRYPT, OURS), 0.95);
+    expect("open over AES decrypt, Balzenoh", over_aes(f, OPEN, DECRYPT, OURS), 0.95);
     expect_ns_at_most("jump by 4000, ns", f->far[FORWARD][JUMP], 450);
     expect_ns_at_most("jump by -4000, ns", f->far[BACK][JUMP], 450);
     expect("4000 steps by bytes over jump by 4000", over_jump(f, FORWARD, STEPS_BY_BYTES), 8);
