@@ -13,11 +13,14 @@ mod damage; // damage.rt: a record with each bit flipped
 
 // ---- the paper, and reference records
 
-fn report_paper() {
+fn report_vectors() {
     report(b"paper, first vector", paper::first_vector(), 5);
     report(b"paper, second vector", paper::second_vector(), 4);
     report(b"paper, both blocks in one run", paper::both_blocks(), 5);
     report(b"paper's rule, 4000 blocks", paper::long_chain(), 7);
+}
+
+fn report_between() {
     run_table(Finish::Cipher, false, b"masks.txt");
     report(b"paper, sums and encryptions", sums::printed(), 7);
     report(b"start mask of zero", paper::zero_start_mask(), 5);
@@ -58,7 +61,8 @@ fn report_damage() {
 }
 
 fn main() {
-    report_paper();
+    report_vectors();
+    report_between();
     report_long_key();
     io::write_all(1, b"keys of 16 bytes\n");
     report_reference(b"sealed.txt");

@@ -18,34 +18,53 @@ fn start_mask() -> [u8; 16] {
     xor(encrypted, key)
 }
 
-// Two blocks have this sum, and it is encrypted to this.
-fn sum_is(a: [u8; 16], b: [u8; 16], sum: [u8; 16], encrypted: [u8; 16]) -> usize
+// Two blocks have this sum, and it is encrypted to this, in digits.
+fn sum_is(a: [u8; 16], b: [u8; 16], sum: &[u8; 32], encrypted: &[u8; 32]) -> usize
     ensures { λ r. ⌜ r ≤ 2 ⌝ }
 {
     let added = xor(a, b);
     let key = key();
     let given = case_tools::aes::encrypt(&key, added);
-    one_if(equal(added, sum)) + one_if(equal(given, encrypted))
+    one_if(equal(added, block(sum))) + one_if(equal(given, block(encrypted)))
 }
 
-// R1; then m1 plus R1, A1 plus R2 and m2 plus R2.
+// R1, and m1 plus R1.
+fn first(r1: [u8; 16]) -> usize
+    ensures { λ r. ⌜ r ≤ 3 ⌝ }
+{
+    let m1 = block(b"00112233445566778899AABBCCDDEEFF");
+    one_if(equal(r1, block(b"FDED29920913A3DA8C9ECA2F0FD434AA")))
+        + sum_is(
+            m1,
+            r1,
+            b"FDFC0BA14D46C5AD04076094C309DA55",
+            b"FEE2017432993F8D81E1251E9BD6125E",
+        )
+}
+
+// A1 plus R2 and m2 plus R2.
+fn second(a1: [u8; 16], m2: [u8; 16], r2: [u8; 16]) -> usize
+    ensures { λ r. ⌜ r ≤ 4 ⌝ }
+{
+    sum_is(
+        a1,
+        r2,
+        b"38C588502886DE7E61978134F2BE476A",
+        b"08A2C2E93DFEEBEBEDD5CD4AB7351526",
+    )
+        + sum_is(
+            m2,
+            r2,
+            b"F8D57BC229ADDBE214427B6F8BAA4F27",
+            b"778A4DF11D9CAB517F68DD65E6053BFA",
+        )
+}
+
 pub fn printed() -> usize {
     let r1 = start_mask();
-    let r2 = jumped(r1, 1);
-    let m1 = block(b"00112233445566778899AABBCCDDEEFF");
-    let first = first_link();
-    let m2 = first.block;
-    let run = first.run;
+    let link = first_link();
+    let m2 = link.block;
+    let run = link.run;
     let a1 = blocks::words::to_bytes(run.preauthenticator);
-    let r1_printed = block(b"FDED29920913A3DA8C9ECA2F0FD434AA");
-    let sum1 = block(b"FDFC0BA14D46C5AD04076094C309DA55");
-    let sum1_encrypted = block(b"FEE2017432993F8D81E1251E9BD6125E");
-    let sum2 = block(b"38C588502886DE7E61978134F2BE476A");
-    let sum2_encrypted = block(b"08A2C2E93DFEEBEBEDD5CD4AB7351526");
-    let sum3 = block(b"F8D57BC229ADDBE214427B6F8BAA4F27");
-    let sum3_encrypted = block(b"778A4DF11D9CAB517F68DD65E6053BFA");
-    one_if(equal(r1, r1_printed))
-        + sum_is(m1, r1, sum1, sum1_encrypted)
-        + sum_is(a1, r2, sum2, sum2_encrypted)
-        + sum_is(m2, r2, sum3, sum3_encrypted)
+    first(r1) + second(a1, m2, jumped(r1, 1))
 }
