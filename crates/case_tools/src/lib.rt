@@ -9,7 +9,6 @@ pub mod file; // file.rt: a data file
 pub mod words; // words.rt: the words and numbers of a line
 pub mod call; // call.rt: one call into an output that held noise
 pub mod reference; // reference.rt: records that a second program sealed
-pub mod table; // table.rt: a table of cases in a data file
 
 // `name: agreed of all`
 pub fn report(name: &[u8], agreed: usize, all: usize) {

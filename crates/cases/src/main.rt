@@ -2,7 +2,7 @@
 // agreed.
 use case_tools::reference::run_file as run_records;
 use case_tools::report;
-use case_tools::table::run_file as run_table;
+use case_table::run_file as run_table;
 use mode::finish::Finish;
 
 mod paper; // paper.rt: the vectors of the mode's paper

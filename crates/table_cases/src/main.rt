@@ -3,5 +3,5 @@
 use mode::finish::Finish;
 
 fn main() {
-    case_tools::table::run_file(Finish::Cipher, false, b"table.txt");
+    case_table::run_file(Finish::Cipher, false, b"table.txt");
 }

@@ -17,6 +17,6 @@ fn report_others() {
 // The file has 10 and the rows around it, call by call.
 fn main() {
     report(b"the IVs", pair::found(), 6);
-    case_tools::table::run_file(Finish::Cipher, true, b"table.txt");
+    case_table::run_file(Finish::Cipher, true, b"table.txt");
     report_others();
 }

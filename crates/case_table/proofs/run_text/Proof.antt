@@ -2,8 +2,8 @@
 use borrow.Author.Needs.{needs}
 use Prim.Native.Nat.{_≤_, _+_, _-_}
 use lib.ListN.{length}
-use Rattle.case_tools.proofs.table.run_text.Statement.{statement}
-use Rattle.case_tools.proofs.table.run_text.Tie as tie
+use Rattle.case_table.proofs.run_text.Statement.{statement}
+use Rattle.case_table.proofs.run_text.Tie as tie
 
 abbrev Inv-loop : tie.InvT-loop
 Inv-loop finish zero text from₀ to₀ agreed₀ all₀ at₀ t11 from to agreed all at = (from ≤ to) × (to ≤ length text) × (agreed ≤ at) × (all ≤ at) × (at ≤ length text + 1)

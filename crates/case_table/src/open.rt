@@ -1,20 +1,20 @@
 // Lines that open a record: one of noise, one that is given in digits, a sealed message, and blocks that a middle run sealed.
 ghost use Prim.Native.Nat.{_≤_};
-use super::columns::ROOM;
-use super::columns::SPELT;
-use super::columns::TEXT;
-use super::keys::keys;
-use super::sealed::of_blocks;
-use super::sealed::of_message;
-use crate::bytes::flip_last;
-use crate::bytes::front;
-use crate::bytes::front_mut;
-use crate::bytes::one_if;
-use crate::call::opened_into;
-use crate::random::noise;
-use crate::words::byte;
-use crate::words::number;
-use crate::words::spelt;
+use crate::columns::ROOM;
+use crate::columns::SPELT;
+use crate::columns::TEXT;
+use crate::keys::keys;
+use crate::sealed::of_blocks;
+use crate::sealed::of_message;
+use case_tools::bytes::flip_last;
+use case_tools::bytes::front;
+use case_tools::bytes::front_mut;
+use case_tools::bytes::one_if;
+use case_tools::call::opened_into;
+use case_tools::random::noise;
+use case_tools::words::byte;
+use case_tools::words::number;
+use case_tools::words::spelt;
 use mode::finish::Finish;
 
 // A record opened into `room` bytes: a refusal, or the message where the refusal is 0.

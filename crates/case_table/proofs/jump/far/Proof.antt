@@ -1,8 +1,8 @@
 -- One jump less is left at each turn.
 use borrow.Author.Needs.{needs}
 use Prim.Native.Nat.{_≤_}
-use Rattle.case_tools.proofs.table.jump.far.Statement.{statement}
-use Rattle.case_tools.proofs.table.jump.far.Tie as tie
+use Rattle.case_table.proofs.jump.far.Statement.{statement}
+use Rattle.case_table.proofs.jump.far.Tie as tie
 
 abbrev Inv-loop : tie.InvT-loop
 Inv-loop distance times m₀ left₀ m left = left ≤ times

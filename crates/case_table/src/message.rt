@@ -1,13 +1,13 @@
 // A line that seals a message.
 ghost use Prim.Native.Nat.{_≤_};
-use super::columns::ROOM;
-use super::columns::TEXT;
-use crate::bytes::front;
-use crate::bytes::front_mut;
-use crate::bytes::one_if;
-use crate::call::sealed_into;
-use crate::words::byte;
-use crate::words::number;
+use crate::columns::ROOM;
+use crate::columns::TEXT;
+use case_tools::bytes::front;
+use case_tools::bytes::front_mut;
+use case_tools::bytes::one_if;
+use case_tools::call::sealed_into;
+use case_tools::words::byte;
+use case_tools::words::number;
 use mode::finish::Finish;
 
 // seal KEY IV MESSAGE ROOM REFUSAL LENGTH

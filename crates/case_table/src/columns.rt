@@ -1,9 +1,9 @@
 // The columns of a case, and whether a line has those of a call.
-use crate::bytes::starts_with;
-use crate::words::is_negative;
-use crate::words::magnitude;
-use crate::words::number;
-use crate::words::word;
+use case_tools::bytes::starts_with;
+use case_tools::words::is_negative;
+use case_tools::words::magnitude;
+use case_tools::words::number;
+use case_tools::words::word;
 
 // The most bytes of a key, an IV, a message or a run, and a lent output.
 pub const KEY: usize = 64;

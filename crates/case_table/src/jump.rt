@@ -1,20 +1,20 @@
 // Lines that jump a mask: one of bytes 05, and one in digits.
 ghost use Prim.Native.Nat.{_≤_};
-use super::columns::KEY;
-use super::columns::SPELT;
-use crate::bytes::answered;
-use crate::bytes::block_from;
-use crate::bytes::front;
-use crate::bytes::front_mut;
-use crate::bytes::one_if;
-use crate::bytes::starts_with;
-use crate::call::jumped;
-use crate::random::noise;
-use crate::words::byte;
-use crate::words::number;
-use crate::words::number32;
-use crate::words::signed;
-use crate::words::spelt;
+use crate::columns::KEY;
+use crate::columns::SPELT;
+use case_tools::bytes::answered;
+use case_tools::bytes::block_from;
+use case_tools::bytes::front;
+use case_tools::bytes::front_mut;
+use case_tools::bytes::one_if;
+use case_tools::bytes::starts_with;
+use case_tools::call::jumped;
+use case_tools::random::noise;
+use case_tools::words::byte;
+use case_tools::words::number;
+use case_tools::words::number32;
+use case_tools::words::signed;
+use case_tools::words::spelt;
 
 // Whether a jump gets a refusal, or a mask.
 fn gets(mask: &[u8], distance: i32, out: &mut [u8], refusal: u8, answer: &[u8]) -> usize

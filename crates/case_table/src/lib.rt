@@ -1,15 +1,15 @@
 // A table of cases in a data file. A line is a case: the name of a call, numbers and digits, and what the call gets. Lines that start with
 // `group` part the cases into groups; empty lines and those that start with # say nothing.
 ghost use Prim.Native.Nat.{_≤_};
-use crate::bytes::front;
-use crate::bytes::starts_with;
-use crate::report;
-use crate::words::line_end;
-use crate::words::number;
-use columns::is_call;
-use keys::iv_beside;
-use keys::keys;
-use keys::lengthened;
+use case_tools::bytes::front;
+use case_tools::bytes::starts_with;
+use case_tools::report;
+use case_tools::words::line_end;
+use case_tools::words::number;
+use crate::columns::is_call;
+use crate::keys::iv_beside;
+use crate::keys::keys;
+use crate::keys::lengthened;
 use mode::finish::Finish;
 
 mod columns; // columns.rt: the columns of a case
@@ -168,6 +168,6 @@ pub fn run_text(finish: Finish, zero: bool, text: &[u8]) {
 // The cases of a data file.
 pub fn run_file(finish: Finish, zero: bool, path: &[u8]) {
     let mut buffer = io::large_buffer();
-    let n = crate::file::read(path, &mut buffer);
+    let n = case_tools::file::read(path, &mut buffer);
     run_text(finish, zero, &buffer[..n]);
 }

@@ -2,8 +2,8 @@
 use borrow.Author.Needs.{needs}
 use Prim.Native.Nat.{_≤_, _-_}
 use lib.ListN.{length}
-use Rattle.case_tools.proofs.table.columns.fit.Statement.{statement}
-use Rattle.case_tools.proofs.table.columns.fit.Tie as tie
+use Rattle.case_table.proofs.columns.fit.Statement.{statement}
+use Rattle.case_table.proofs.columns.fit.Tie as tie
 
 abbrev Inv-loop : tie.InvT-loop
 Inv-loop line kinds i₀ i = i ≤ length kinds
