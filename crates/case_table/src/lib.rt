@@ -1,15 +1,15 @@
 // A table of cases in a data file. A line is a case: the name of a call, numbers and digits, and what the call gets. Lines that start with
 // `group` part the cases into groups; empty lines and those that start with # say nothing.
 ghost use Prim.Native.Nat.{_≤_};
+use crate::columns::is_call;
+use crate::keys::iv_beside;
+use crate::keys::keys;
+use crate::keys::lengthened;
 use case_tools::bytes::front;
 use case_tools::bytes::starts_with;
 use case_tools::report;
 use case_tools::words::line_end;
 use case_tools::words::number;
-use crate::columns::is_call;
-use crate::keys::iv_beside;
-use crate::keys::keys;
-use crate::keys::lengthened;
 use mode::finish::Finish;
 
 mod columns; // columns.rt: the columns of a case

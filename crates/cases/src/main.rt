@@ -1,8 +1,8 @@
 // The paper's vectors, reference records, cuts and damage, run against the proved library. Each line says how many cases of a group
 // agreed.
+use case_table::run_file as run_table;
 use case_tools::reference::run_file as run_records;
 use case_tools::report;
-use case_table::run_file as run_table;
 use mode::finish::Finish;
 
 mod paper; // paper.rt: the vectors of the mode's paper

@@ -1,7 +1,7 @@
 // The hash finish (ticket P4), run against the proved library. Each line says how many cases of a group agreed.
+use case_table::run_file as run_table;
 use case_tools::reference::run_file as run_records;
 use case_tools::report;
-use case_table::run_file as run_table;
 use mode::finish::Finish;
 
 mod made; // made.rt: a record of the mode's paper and one made by hand
