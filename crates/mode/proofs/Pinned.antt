@@ -320,13 +320,13 @@ pub by-length : (t : Finish) (sealed tag : List ℕ) → (notSealed t sealed ≡
 unfolding notSealed notTag recordRefused
 by-length t sealed tag = (refl, refl)
 
--- 48 to 64,032, a multiple of 16; 52 to 64,036, 36 over a multiple of 16
-pub records-taken : (map (recordRefused byCipher) (48 ∷ 64 ∷ 64032 ∷ []) ≡ false ∷ false ∷ false ∷ []) × (map (recordRefused bySha1) (52 ∷ 68 ∷ 64036 ∷ []) ≡ false ∷ false ∷ false ∷ [])
+-- 48 to 16,777,248, a multiple of 16; 52 to 16,777,252, 36 over a multiple of 16
+pub records-taken : (map (recordRefused byCipher) (48 ∷ 64 ∷ 16777248 ∷ []) ≡ false ∷ false ∷ false ∷ []) × (map (recordRefused bySha1) (52 ∷ 68 ∷ 16777252 ∷ []) ≡ false ∷ false ∷ false ∷ [])
 unfolding recordRefused
 records-taken = (refl, refl)
 
-pub records-refused : (map (recordRefused byCipher) (32 ∷ 47 ∷ 49 ∷ 52 ∷ 64033 ∷ 64048 ∷ []) ≡ replicate 6 true)
-    × (map (recordRefused bySha1) (36 ∷ 48 ∷ 51 ∷ 53 ∷ 64 ∷ 64037 ∷ 64052 ∷ []) ≡ replicate 7 true)
+pub records-refused : (map (recordRefused byCipher) (32 ∷ 47 ∷ 49 ∷ 52 ∷ 16777249 ∷ 16777264 ∷ []) ≡ replicate 6 true)
+    × (map (recordRefused bySha1) (36 ∷ 48 ∷ 51 ∷ 53 ∷ 64 ∷ 16777253 ∷ 16777268 ∷ []) ≡ replicate 7 true)
 unfolding recordRefused
 records-refused = (refl, refl)
 

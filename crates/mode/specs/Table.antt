@@ -56,7 +56,7 @@ pub record Decides (rows : List (ℕ × Bool)) (n : ℕ) : Type 0 where
 
 -- THE LIMIT: the number of blocks that a list may have
 abbrev pub limit : ℕ
-limit = 4000
+limit = 1048576
 
 -- so the longest message, whose padding fills the last block, has 63,999 bytes, and the longest sealed record 64,032, or 64,036 with the hash
 -- finish

@@ -14,7 +14,7 @@ ghost use Rattle.mode.specs.Calls.{joined, joinTwo, joinTwoRows, recordA
 ghost use Rattle.mode.specs.Powers.{Keeps, Joinable, joinKeeping};
 
 // The most blocks that a list may have.
-pub const LIMIT: u64 = 4000;
+pub const LIMIT: u64 = 1048576;
 
 // So the longest ciphertext, and the longest message, whose padding fills the last block.
 pub const LONGEST_CIPHERTEXT: usize = 16 * LIMIT as usize;
