@@ -13,7 +13,7 @@ use Rattle.mode.specs.declared.RecordAnswer.{RecordAnswer}
 use Rattle.mode.specs.declared.TagAnswer.{TagAnswer}
 use Rattle.mode.specs.Aes.{aes}
 use Rattle.mode.specs.Table.{Answer, refused, given, decide}
-use Rattle.mode.specs.Calls.{outcomeBy, Kind, seal, sealRows, openSealed, openRows, sealRun, sealRunRows, blocksOfRun, passFrom, runRecord, checkRun, checkRunRows, joinTwo, joinTwoRows, joinList, joinListRows, close, closeRows, test, testRows, jumpMask, jumpRows, sha1Text, sha1Rows, number, runAnswerOf, recordAnswerOf, tagAnswerOf}
+use Rattle.mode.specs.Calls.{outcomeBy, Kind, seal, sealRows, openSealed, openRows, openRowsWithin, sealRun, sealRunRows, blocksOfRun, passFrom, runRecord, checkRun, checkRunRows, joinTwo, joinTwoRows, joinList, joinListRows, close, closeRows, test, testRows, jumpMask, jumpRows, sha1Text, sha1Rows, number, runAnswerOf, recordAnswerOf, tagAnswerOf}
 use Rattle.calls.specs.Layout.{kindOf}
 use Rattle.record_bytes.specs.Encoding.{decoded, recordsOf}
 use Rattle.balzenoh.specs.Exports.{lentRows, lent, lentRecord, recordPart, sealRunBytes, notRecord, notRecords, joinBytes, joinListBytes, closeBytes, testBytes}
@@ -140,7 +140,7 @@ abbrev refusalOfTag : TagAnswer → ℕ
 refusalOfTag a = a .refusal
 
 pub promises : Promises
-unfolding seal openSealed openRows checkRun joinTwo joinList close test jumpMask sha1Text joinBytes joinListBytes closeBytes testBytes recordAnswerOf tagAnswerOf number
+unfolding seal openSealed openRowsWithin checkRun joinTwo joinList close test jumpMask sha1Text joinBytes joinListBytes closeBytes testBytes recordAnswerOf tagAnswerOf number
 promises =
     record {
       of-seal = λ t key iv message room. promised _ _ _ room (by-rows _ (sealRows t aes key iv message room) _ tt);

@@ -14,7 +14,7 @@ use Rattle.fips197.specs.Sbox.{affine, sbox}
 use Rattle.sha1.proofs.Computed as Sha1
 use Rattle.mode.specs.declared.RunRecord.{RunRecord}
 use Rattle.mode.specs.Mode.{zeroBlock, blocksOf, padded, inWords, hashedTag}
-use Rattle.mode.specs.Table.{given, decide, limit, not16, beyond, anyBeyond, tooFar, apart}
+use Rattle.mode.specs.Table.{given, decide, limit, not16, beyondWithin, anyBeyondWithin, tooFarWithin, apart}
 use Rattle.mode.specs.Calls.{blocksOfRun, outcomeBy, joined, joinTwo, jumpMask}
 use Rattle.mode.proofs.Blocks.{count-last}
 use Rattle.mode.proofs.InWords.{zero-words}
@@ -22,12 +22,12 @@ use Rattle.mode.proofs.Records.{joined-empty}
 use Rattle.examples.specs.Examples.{result, AllAgree, EmptyNeighbour, PaddedCount}
 
 pub all-agree : AllAgree
-unfolding result jumpMask outcomeBy decide not16 tooFar jumpBy overX shiftRight lowBit jump timesX shiftLeft carry reduction xorBytes sbox affine inverse power mul times step blocksOfRun blocksOf firstBlocks padded joinTwo anyBeyond beyond apart joined num lowBytes bytesOf wordsOf hashedTag Sha1.computed
+unfolding result jumpMask outcomeBy decide not16 tooFarWithin jumpBy overX shiftRight lowBit jump timesX shiftLeft carry reduction xorBytes sbox affine inverse power mul times step blocksOfRun blocksOf firstBlocks padded joinTwo anyBeyondWithin beyondWithin apart joined num lowBytes bytesOf wordsOf hashedTag Sha1.computed
 all-agree = refl
 
 -- neighbours within the limit are joined
 join-neighbours : (l r : RunRecord) → l .first + l .count ≤ limit → r .first + r .count ≤ limit → l .first + l .count ≡ r .first → joinTwo inWords l r ≡ given (joined inWords l r)
-unfolding joinTwo decide anyBeyond beyond apart
+unfolding joinTwo decide anyBeyondWithin beyondWithin apart
 join-neighbours l r h k e =
     rw (le-ltb limit (l .first + l .count) h, le-ltb limit (r .first + r .count) k, eq-eqb (l .first + l .count) (r .first) e) refl
 

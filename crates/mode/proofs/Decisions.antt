@@ -9,7 +9,7 @@ use lib.Dec.{T, eqb, ltb}
 use borrow.Author.Tests.{eq-eqb, ltb-true}
 use Rattle.mode.specs.Mode.{Cipher, inWords}
 use Rattle.mode.specs.Table.{Answer, refused, given, decide, tableOrder, openOrder, inOrder, NoneHolds, Decides}
-use Rattle.mode.specs.Calls.{Outcome, outcomeBy, seal, sealRows, openSealed, openRows, passFrom, runRecord, sealRun, sealRunRows, checkRun, checkRunRows, joined, joinTwo, joinTwoRows, joinList, joinListRows, closingTag, close, closeRows, test, testRows, jumpMask, jumpRows, sha1Text, sha1Rows}
+use Rattle.mode.specs.Calls.{Outcome, outcomeBy, seal, sealRows, openSealed, openRows, openRowsWithin, passFrom, runRecord, sealRun, sealRunRows, checkRun, checkRunRows, joined, joinTwo, joinTwoRows, joinList, joinListRows, closingTag, close, closeRows, test, testRows, jumpMask, jumpRows, sha1Text, sha1Rows}
 use Rattle.mode.specs.Demands.{Gives, Refuses, Answered, AnsweredInto, Demand1, Decided, DecidedInto, Demand2c}
 use Rattle.mode.proofs.Rows.{outcome-refused, outcome-given}
 
@@ -119,7 +119,7 @@ answered-into {A} rows a bytes room t = by (answered rows a t)
     by (inr r) = inr (r .0, (r .1 .0, outcome-refuses (decide rows a) bytes room (r .0) (r .1 .1)))
 
 pub demand1 : (c : Cipher) → Demand1 c
-unfolding seal openSealed openRows sealRun checkRun joinTwo joinList close test jumpMask sha1Text inTable
+unfolding seal openSealed openRowsWithin sealRun checkRun joinTwo joinList close test jumpMask sha1Text inTable
 demand1 c =
     record {
       of-seal = λ t key iv message room. answered-into (sealRows t c key iv message room) _ _ room tt;
@@ -154,7 +154,7 @@ decided-into order rows a bytes room o =
     }
 
 pub demand2c : (c : Cipher) → Demand2c c
-unfolding seal openSealed openRows sealRun runRecord passFrom checkRun joined joinTwo joinList closingTag close test jumpMask sha1Text inOrder
+unfolding seal openSealed openRowsWithin sealRun runRecord passFrom checkRun joined joinTwo joinList closingTag close test jumpMask sha1Text inOrder
 demand2c c =
     record {
       of-seal = λ t key iv message room. decided-into tableOrder (sealRows t c key iv message room) _ _ room refl;

@@ -16,7 +16,7 @@ use Rattle.gf128.specs.Gf128.{timesX, jump}
 use Rattle.gf128.proofs.TimesX.{length-jump, block-timesX}
 use Rattle.fips197.specs.Aes.{KeyLength, Key}
 use Rattle.mode.specs.Mode.{Cipher, Lawful, Finish, LawfulFinish, overhead, plaintext, ciphertext, zeroBlock, encrypt, startMask, middletext, written, pass, unbroken, unbrokenTag, blocksOf, padded, ivPart, cipherPart, tagPart, sealedRecord}
-use Rattle.mode.specs.Table.{Answer, refused, given, decide, NoneHolds, tooLong, notSealed, zeroMask, longestMessage, longestSealed}
+use Rattle.mode.specs.Table.{Answer, refused, given, decide, NoneHolds, tooLong, tooLongWithin, notSealed, zeroMask, longestMessage, longestSealed}
 use Rattle.mode.specs.Calls.{unpadded, decrypted, plaintextOf, messageOf, openRows, openSealed, seal, sealRows}
 use Rattle.mode.specs.Parallel.{Fits}
 use Rattle.mode.specs.Demands.{Gives, NonzeroMask, SealedFrom, Demand2a, Demand2b, OpensSealed}
@@ -167,7 +167,7 @@ sealing-given t c key iv message r room e =
     given-rows (sealRows t c key iv message room) s r (sym (outcome-answer (decide (sealRows t c key iv message room) s) s room) ∙ e)
 
 pub message-fits : (message : List ℕ) → tooLong message ≡ false → length message ≤ longestMessage
-unfolding tooLong
+unfolding tooLongWithin
 message-fits message e = ltb-false longestMessage (length message) e
 
 module _ (t : Finish) (c : Cipher) (key iv message : List ℕ) (nz : NonzeroMask c key iv) (hk : KeyLength key) (hi : length iv ≡ 16) (hm : length message ≤ longestMessage) where

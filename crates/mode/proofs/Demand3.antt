@@ -12,7 +12,7 @@ use lib.Dec.{leb}
 use borrow.Author.Tests.{ne-eqb, le-leb, lt-leb}
 use Rattle.blocks.specs.Bytes.{Bytes, Block, same, concat}
 use Rattle.mode.specs.Mode.{Cipher, Lawful, Finish, overhead, RunRecord, inWords, pass, unbroken, unbrokenTag, recordOf, blocksOf, padded, cipherPart, tagPart, UnbrokenCheck}
-use Rattle.mode.specs.Table.{Answer, refused, given, decide, beyond, anyBeyond, apart, none, notWhole, zeroMask, limit}
+use Rattle.mode.specs.Table.{Answer, refused, given, decide, beyond, anyBeyond, anyBeyondWithin, apart, none, notWhole, zeroMask, limit}
 use Rattle.mode.specs.Calls.{Kind, middle, last, blocksOfRun, unalignedRun, Outcome, outcomeBy, joinedOnto, joinedAll, joinTwo, joinList, closingTag, close, test, callsOf}
 use Rattle.mode.specs.Parallel.{Work, sealing, checking, sourceOf, finishOf, ivOf, textOf, lastKind, allBlocks, Fits, Cut, Setting, WellFormed, Run, runsFrom, Segment, pending, recorded, blocksOfRuns, runsIn, recordIn, bytesIn, isRecorded, runsOf, bytesOfSegments, blocksIn, noSegment, segment, Call, runAt, joinPair, joinMany, consecutive, AllRecorded, recordsAt, Allowed, mergeBy, recordBy, headOr, firstRun, empties, start, roomOf, outcomeOfRun, runOutcome, answerOf, after, afterAll, EachCall}
 use Rattle.mode.specs.Demands.{NonzeroMask, whole, wholeTag, recordOfSegments, ciphertextOfSegment, ExpectedOfRun, ExpectedOfJoin, Expected, TestedAs, Whole, Demand3}
@@ -376,7 +376,7 @@ module _ (c : Cipher) (laws : Lawful c) (s : Setting) (wf : WellFormed s) where
         unfold joinList decide in rw (n .0, n .1) (unfold none consecutive in (ap (λ (r : RunRecord). given r) (n .2)))) h
 
     list-empty : (is : List ℕ) → is ≡ [] → joinList inWords (recordsAt xs is) ≡ refused 9
-    unfolding joinList decide anyBeyond apart none
+    unfolding joinList decide anyBeyondWithin apart none
     list-empty is e = rw e
 
     list-apart : (is : List ℕ) → AllRecorded xs is → apart inWords (recordsAt xs is) ≡ true → joinList inWords (recordsAt xs is) ≡ refused 8

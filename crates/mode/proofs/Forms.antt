@@ -12,7 +12,7 @@ use Rattle.gf128.specs.Gf128.{jump}
 use Rattle.gf128.proofs.TimesX.{block-jump}
 use Rattle.fips197.specs.Aes.{Key}
 use Rattle.mode.specs.Mode.{Cipher, Lawful, Source, plaintext, ciphertext, Form, inWords, inBytes, zeroBlock, startMask, Finish}
-use Rattle.mode.specs.Table.{Answer, refused, given, decide, NoneHolds, notKey, notTag, not16, beyond, anyBeyond, apart, none, notWhole, zeroMask}
+use Rattle.mode.specs.Table.{Answer, refused, given, decide, NoneHolds, notKey, notTag, not16, beyond, anyBeyond, anyBeyondWithin, apart, none, notWhole, zeroMask}
 use Rattle.mode.specs.Calls.{outcomeBy, unalignedRun, Kind, middle, blocksOfRun, joined, joinedOnto, joinedAll, joinTwo, joinTwoRows, joinList, joinListRows, passFrom, runRecord, sealRun, sealRunRows, checkRun, checkRunRows, closingTag, close, test}
 use Rattle.mode.specs.Demands.{Formed, EachFormed, inForm, mapAnswer, mapOutcome, SameIn, WordsAsBytes}
 use Rattle.fips197.proofs.Keys.{has-key}
@@ -79,7 +79,7 @@ module _ (f g : Form) (rf : Reads f) (rg : Reads g) where
   beyond-same r = ap₂ beyond (first-same r) (count-same r)
 
   any-beyond-same : (rs : List (f .Record)) → anyBeyond g (map to rs) ≡ anyBeyond f rs
-  unfolding anyBeyond
+  unfolding anyBeyondWithin
   any-beyond-same [] = refl
   any-beyond-same (r ∷ rs) = ap₂ (λ (x y : Bool). x || y) (beyond-same r) (any-beyond-same rs)
 

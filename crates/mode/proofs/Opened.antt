@@ -17,7 +17,7 @@ use Rattle.fips197.specs.Aes.{KeyLength}
 use Rattle.fips197.proofs.Keys.{is-key, has-key}
 use Rattle.mode.specs.Mode.{Cipher, Lawful, Finish, overhead, ciphertext, blocksOf, startMask, middletext, unbrokenTag, ivPart, cipherPart, tagPart, UnbrokenCheck}
 use Rattle.mode.specs.Table.{Answer, refused, given, decide, NoneHolds, notKey, notSealed, zeroMask, tooShort}
-use Rattle.mode.specs.Calls.{outcomeBy, unpadFrom, unpadded, notPadded, orEmpty, decrypted, plaintextOf, messageOf, openRows, openSealed}
+use Rattle.mode.specs.Calls.{outcomeBy, unpadFrom, unpadded, notPadded, orEmpty, decrypted, plaintextOf, messageOf, openRows, openRowsWithin, openSealed}
 use Rattle.mode.specs.OpenBefore.{openRowsBefore, openBefore}
 use Rattle.mode.specs.Parallel.{Fits}
 use Rattle.mode.specs.Demands.{Refuses, NonzeroMask, Demand2d, OldSize}
@@ -74,7 +74,7 @@ module _ (t : Finish) (c : Cipher) (key sealed : List ℕ) (room : ℕ) where
       }
 
   pub given-found : (m : List ℕ) → (openSealed t c key sealed room) .answer ≡ given m → Found t c key sealed m × (length m ≤ room)
-  unfolding openRows
+  unfolding openRowsWithin
   given-found m e =
       let g = given-rows (openRows t c key sealed room) message₀ m (sym answer-is ∙ e) in
       let h = g .0 in
@@ -83,14 +83,14 @@ module _ (t : Finish) (c : Cipher) (key sealed : List ℕ) (room : ℕ) where
       (rw (sym (g .1)) f, rw (sym (g .1)) l)
 
   pub refused-found : (openSealed t c key sealed room) .answer ≡ refused 5 → (m : List ℕ) × (Found t c key sealed m × (room < length m))
-  unfolding openRows
+  unfolding openRowsWithin
   refused-found e =
       let h = last-row rowsAbove 5 (tooShort room (length message₀)) message₀ refl (sym answer-is ∙ e) in
       (message₀, (found-by (h .0), ltb-true room (length message₀) (h .1)))
 
   module _ (m : List ℕ) (f : Found t c key sealed m) where
     left-to-decide : decide (openRows t c key sealed room) message₀ ≡ decide ((5, tooShort room (length m)) ∷ []) m
-    unfolding openRows decide notPadded orEmpty
+    unfolding openRowsWithin decide notPadded orEmpty
     left-to-decide = rw (f .key-right, f .length-right, f .masked, f .tag-right, f .message)
 
     pub found-given : length m ≤ room → (openSealed t c key sealed room) .answer ≡ given m
@@ -150,7 +150,7 @@ module _ (c : Cipher) (laws : Lawful c) (key : List ℕ) (hk : KeyLength key) wh
 -- ---- THE OLD SIZE
 
 pub old-size : (t : Finish) (c : Cipher) → Lawful c → OldSize t c
-unfolding openSealed openBefore openRows openRowsBefore decide
+unfolding openSealed openBefore openRowsWithin openRowsBefore decide
 old-size t c laws key sealed room h = by (notKey key) (notSealed t sealed) refl refl
   where
     by : (k s : Bool) → notKey key ≡ k → notSealed t sealed ≡ s → openSealed t c key sealed room ≡ openBefore t c key sealed room
@@ -198,7 +198,7 @@ module _ (t : Finish) (c : Cipher) (key sealed : List ℕ) (room : ℕ) (nz : No
   -- rows 1, 3 and 10 do not hold
   by-contents : (openSealed t c key sealed room) .answer
       ≡ contents (tagSame t c key sealed room) (unpaddedText t c key sealed room) (tooShort room (length (messageOf t c key sealed))) (messageOf t c key sealed)
-  unfolding openRows decide
+  unfolding openRowsWithin decide
   by-contents = answer-is t c key sealed room ∙ rw (is-key key hk, hs, nz)
 
   -- the check is the comparison of row 6

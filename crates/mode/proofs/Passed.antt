@@ -9,7 +9,7 @@ use lib.ListN.{length}
 use borrow.Author.Tests.{eqb-true, eq-eqb, ltb-false, le-ltb, not-false}
 use Rattle.fips197.specs.Aes.{KeyLength}
 use Rattle.mode.specs.Mode.{Finish, overhead}
-use Rattle.mode.specs.Table.{firstRow, limit, longestSealed, notKey, not16, notTag, notSealed, beyond}
+use Rattle.mode.specs.Table.{firstRow, limit, longestSealed, notKey, not16, notTag, notSealed, notSealedWithin, beyond, beyondWithin}
 use Rattle.mode.specs.Parallel.{checking, Fits}
 use Rattle.fips197.proofs.Keys.{has-key}
 
@@ -37,7 +37,7 @@ iv-16 key iv rows e = has-16 iv (head-passed 1 (not16 iv) rows (tail-passed 0 (n
 
 -- 4 does not hold
 pub within-limit : (first count : ℕ) (rows : List (ℕ × Bool)) → firstRow ((4, beyond first count) ∷ rows) ≡ 0 → first + count ≤ limit
-unfolding beyond
+unfolding beyondWithin
 within-limit first count rows e = ltb-false limit (first + count) (head-passed 3 (ltb limit (first + count)) rows e)
 
 -- 3 of a tag does not hold
@@ -63,7 +63,7 @@ or-false false q e = (refl, e)
 
 -- 3 of a sealed record does not hold
 pub sealed-lengths : (t : Finish) (sealed : List ℕ) → notSealed t sealed ≡ false → Fits (checking t sealed)
-unfolding notSealed Fits
+unfolding notSealedWithin Fits
 sealed-lengths t sealed e =
     let size = length sealed in
     let rest = not (eqb ((size - overhead t) % 16) 0) in
@@ -73,7 +73,7 @@ sealed-lengths t sealed e =
 
 -- and where its length is right, it does not
 pub lengths-sealed : (t : Finish) (sealed : List ℕ) → Fits (checking t sealed) → notSealed t sealed ≡ false
-unfolding notSealed Fits
+unfolding notSealedWithin Fits
 lengths-sealed t sealed h =
     let size = length sealed in
     rw (le-ltb size (16 + overhead t) (h .0), le-ltb (longestSealed t) size (h .1), eq-eqb ((size - overhead t) % 16) 0 (h .2))

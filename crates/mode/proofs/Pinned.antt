@@ -22,8 +22,8 @@ use Rattle.fips197.specs.Cipher.{cipher, invCipher, afterRound}
 use Rattle.fips197.specs.Aes.{KeyLength, short, long, Key}
 use Rattle.sha1.specs.Sha1.{sha1}
 use Rattle.mode.specs.Mode.{Cipher, Finish, overhead, byCipher, bySha1, plaintext, ciphertext, RunRecord, inWords, ByteRecord, inBytes, zeroBlock, keyBlock, encrypt, startMask, blocksOf, ivPart, cipherPart, tagPart, sealedRecord, unbrokenTag, UnbrokenCheck}
-use Rattle.mode.specs.Table.{Answer, refused, given, decide, tableOrder, openOrder, inOrder, notKey, not16, unaligned, tooLong, notTag, notSealed, beyond, tooFar, apart, notWhole, zeroMask, tooShort, limit, longestMessage, longestSealed}
-use Rattle.mode.specs.Calls.{Outcome, Kind, middle, last, outcomeBy, blocksOfRun, unalignedRun, seal, openSealed, openRows, unpadded, notPadded, orEmpty, plaintextOf, passFrom, runRecord, sealRun, checkRun, joinTwo, closingTag, close, test, Calls, callsOf}
+use Rattle.mode.specs.Table.{Answer, refused, given, decide, tableOrder, openOrder, inOrder, notKey, not16, unaligned, tooLong, notTag, notSealed, notSealedWithin, beyond, tooFar, tooFarWithin, apart, notWhole, zeroMask, tooShort, limit, longestMessage, longestSealed}
+use Rattle.mode.specs.Calls.{Outcome, Kind, middle, last, outcomeBy, blocksOfRun, unalignedRun, seal, openSealed, openRowsWithin, unpadded, notPadded, orEmpty, plaintextOf, passFrom, runRecord, sealRun, checkRun, joinTwo, closingTag, close, test, Calls, callsOf}
 use Rattle.mode.specs.OpenBefore.{openRowsBefore, openBefore}
 use Rattle.mode.specs.Parallel.{sealing, checking, ivOf, lastKind, textOf, Fits, Cut, Setting, WellFormed, Segment, isRecorded, segment, Call, runAt, joinPair, joinMany, consecutive, AllRecorded, recordsAt, Allowed, start, roomOf, runOutcome, afterAll, EachCall}
 use Rattle.mode.specs.Demands.{IsAes, Aes128And256, KeyInStepOne, TwoFinishes, Gives, Refuses, InTable, NonzeroMask, SealedFrom, Demand2a, Demand2b, Demand2d, OldSize, Agrees, Demand3, ZeroMask, zeroMaskIv, without, AsBefore, Formed, inForm, mapAnswer, WordsAsBytes, RunRefused, ZeroMaskRack, JumpsTo, SignedJump}
@@ -226,7 +226,7 @@ module _ (t : Finish) (c : Cipher) (b : AsBefore c) (key iv : List ℕ) where
       ∷ (5, tooShort room (length message))
       ∷ [])
       message) message room
-  unfolding without openRows
+  unfolding without openRowsWithin
   open-before sealed room z = b .of-open t key sealed room z
 
   pub seal-run-before : (first : ℕ) (kind : Kind) (bytes : List ℕ) (room : ℕ) → zeroMask c key iv ≡ false
@@ -317,7 +317,7 @@ unfoldable pub recordRefused : Finish → ℕ → Bool
 recordRefused t n = ltb n (16 + overhead t) || (ltb (longestSealed t) n || not (eqb ((n - overhead t) % 16) 0))
 
 pub by-length : (t : Finish) (sealed tag : List ℕ) → (notSealed t sealed ≡ recordRefused t (length sealed)) × (notTag t tag ≡ not (eqb (length tag) (t .tagLength)))
-unfolding notSealed notTag recordRefused
+unfolding notSealedWithin notTag recordRefused
 by-length t sealed tag = (refl, refl)
 
 -- 48 to 16,777,248, a multiple of 16; 52 to 16,777,252, 36 over a multiple of 16
@@ -370,7 +370,7 @@ back-twice c s mask n k h r = s .adds mask (negsuc n) (negsuc k) h (omega arith)
 
 -- the last distances in range, and the first beyond
 pub range : (tooFar (pos limit) ≡ false) × (tooFar (negℤ (pos limit)) ≡ false) × (tooFar (pos (suc limit)) ≡ true) × (tooFar (negsuc limit) ≡ true)
-unfolding tooFar
+unfolding tooFarWithin
 range = (refl, refl, refl, refl)
 
 -- ---- opening into the space that the list needs

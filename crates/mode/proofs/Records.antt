@@ -17,7 +17,7 @@ use Rattle.blocks.proofs.XorBytes.{xorBytes-assoc, xorBytes-zeros}
 use Rattle.gf128.specs.Gf128.{jump}
 use Rattle.gf128.proofs.TimesX.{jump-xor, jump-add, length-jump, block-jump}
 use Rattle.mode.specs.Mode.{Cipher, Lawful, plaintext, ciphertext, RunRecord, inWords, zeroBlock, startMask, blocksOf}
-use Rattle.mode.specs.Table.{Answer, refused, given, decide, NoneHolds, beyond, anyBeyond, apart, limit, none}
+use Rattle.mode.specs.Table.{Answer, refused, given, decide, NoneHolds, beyond, beyondWithin, anyBeyond, anyBeyondWithin, apart, limit, none}
 use Rattle.mode.specs.Calls.{joined, joinedOnto, joinedAll, joinList, blocksOfRun, outcomeBy, passFrom, runRecord, sealRun, sealRunRows, checkRun, checkRunRows}
 use Rattle.fips197.proofs.Keys.{is-key}
 use Rattle.mode.proofs.InWords.{same-record, block-zero, joined-block}
@@ -72,7 +72,7 @@ joined-empty a first h =
 -- a joined list is within the limit again: its sums need no more than 32 bits
 onto-within : (l : RunRecord) (rs : List RunRecord) → l .first + l .count ≤ limit → anyBeyond inWords rs ≡ false → apart inWords (l ∷ rs) ≡ false
     → (joinedOnto inWords l rs) .first + (joinedOnto inWords l rs) .count ≤ limit
-unfolding joinedOnto anyBeyond apart beyond joined
+unfolding joinedOnto anyBeyondWithin apart beyondWithin joined
 onto-within l [] h b a = h
 onto-within l (r ∷ rs) h b a =
     let u = or-false (ltb limit (r .first + r .count)) (anyBeyond inWords rs) b in
@@ -95,8 +95,8 @@ list-within [] r e = absurd (let z = (given-rows ((4, anyBeyond inWords []) ∷ 
     bad e = let z : _≡_ {A = ℕ} 0 1 = cc in omega arith
 list-within (l ∷ rs) r e =
     let g = given-rows ((4, anyBeyond inWords (l ∷ rs)) ∷ (8, apart inWords (l ∷ rs)) ∷ (9, none (l ∷ rs)) ∷ []) (joinedAll inWords (l ∷ rs)) r e in
-    let u = or-false (beyond (l .first) (l .count)) (anyBeyond inWords rs) (unfold anyBeyond in (g .0 .0)) in
-    let k : l .first + l .count ≤ limit = ltb-false limit (l .first + l .count) (unfold beyond in (u .0)) in
+    let u = or-false (beyond (l .first) (l .count)) (anyBeyond inWords rs) (unfold anyBeyondWithin in (g .0 .0)) in
+    let k : l .first + l .count ≤ limit = ltb-false limit (l .first + l .count) (unfold beyondWithin in (u .0)) in
     subst (λ (r : RunRecord). r .first + r .count ≤ limit) (g .1) (unfold joinedAll in (onto-within l rs k (u .1) (g .0 .1 .0)))
 
 -- ---- checking what was sealed

@@ -11,7 +11,7 @@ use lib.Signed.{ltZ}
 use borrow.Author.Tests.{eq-eqb, ne-eqb, le-ltb, lt-ltb}
 use Rattle.blocks.specs.Bytes.{zeros}
 use Rattle.mode.specs.Mode.{Finish, overhead, RunRecord, inWords}
-use Rattle.mode.specs.Table.{Answer, refused, given, decide, firstRow, limit, longestMessage, longestSealed, not16, unaligned, tooLong, notTag, notSealed, beyond, tooFar, notWhole}
+use Rattle.mode.specs.Table.{Answer, refused, given, decide, firstRow, limit, longestMessage, longestSealed, not16, unaligned, tooLong, tooLongWithin, notTag, notSealed, notSealedWithin, beyond, beyondWithin, tooFar, tooFarWithin, notWhole}
 use Rattle.mode.specs.Calls.{outcomeBy, number}
 
 -- ---- the first row
@@ -107,7 +107,7 @@ unfolding unaligned
 misaligned a h = ap not (ne-eqb (length a % 16) 0 h)
 
 pub is-beyond : (first count : ℕ) → limit < first + count → beyond first count ≡ true
-unfolding beyond
+unfolding beyondWithin
 is-beyond first count h = lt-ltb limit (first + count) h
 
 -- a distance, tested at both ends of the range
@@ -115,16 +115,16 @@ abbrev pub outside : ℤ → Bool
 outside d = ltZ d (negℤ (pos limit)) || ltZ (pos limit) d
 
 pub is-outside : (d : ℤ) → outside d ≡ tooFar d
-unfolding tooFar
+unfolding tooFarWithin
 is-outside (pos n) = refl
 is-outside (negsuc n) = or-false (ltb (limit - 1) n) ∙ sym (leb·suc-suc limit n)
 
 pub too-long : (m : List ℕ) → longestMessage < length m → tooLong m ≡ true
-unfolding tooLong
+unfolding tooLongWithin
 too-long m h = lt-ltb longestMessage (length m) h
 
 pub not-too-long : (m : List ℕ) → length m ≤ longestMessage → tooLong m ≡ false
-unfolding tooLong
+unfolding tooLongWithin
 not-too-long m h = le-ltb longestMessage (length m) h
 
 pub not-at-start : (r : RunRecord) → (r .first ≡ 0 → ⊥) → notWhole inWords r ≡ true
@@ -149,14 +149,14 @@ module _ (t : Finish) where
   is-tag a h = ap not (eq-eqb (length a) (t .tagLength) h)
 
   pub sealed-short : (s : List ℕ) → length s < 16 + overhead t → notSealed t s ≡ true
-  unfolding notSealed
+  unfolding notSealedWithin
   sealed-short s h = rw (lt-ltb (length s) (16 + overhead t) h)
 
   pub sealed-long : (s : List ℕ) → 16 + overhead t ≤ length s → longestSealed t < length s → notSealed t s ≡ true
-  unfolding notSealed
+  unfolding notSealedWithin
   sealed-long s k h = rw (le-ltb (length s) (16 + overhead t) k, lt-ltb (longestSealed t) (length s) h)
 
   -- else the multiple of 16 decides
   pub sealed-rest : (s : List ℕ) → 16 + overhead t ≤ length s → length s ≤ longestSealed t → notSealed t s ≡ not (eqb ((length s - overhead t) % 16) 0)
-  unfolding notSealed
+  unfolding notSealedWithin
   sealed-rest s k l = rw (le-ltb (length s) (16 + overhead t) k, le-ltb (longestSealed t) (length s) l)

@@ -15,7 +15,7 @@ use Rattle.gf128.specs.Gf128.{timesX, jump}
 use Rattle.gf128.proofs.TimesX.{length-timesX, length-jump, jump-add}
 use Rattle.fips197.specs.Aes.{KeyLength}
 use Rattle.mode.specs.Mode.{Cipher, Lawful, Finish, Source, plaintext, ciphertext, RunRecord, inWords, zeroBlock, startMask, middletext, written, pass, unbroken, recordOf, blocksOf, ivPart}
-use Rattle.mode.specs.Table.{Answer, refused, given, decide, not16, beyond, zeroMask, limit}
+use Rattle.mode.specs.Table.{Answer, refused, given, decide, not16, beyond, beyondWithin, zeroMask, limit}
 use Rattle.mode.specs.Calls.{unalignedRun, Kind, middle, last, blocksOfRun, outcomeBy, passFrom, runRecord, sealRun, sealRunRows, checkRun, callsOf}
 use Rattle.mode.specs.Parallel.{Work, sealing, checking, sourceOf, ivOf, Fits, Run, roomOf, outcomeOfRun}
 use Rattle.fips197.proofs.Keys.{is-key}
@@ -28,7 +28,7 @@ unfolding not16
 is16 a e = ap not (eq-eqb (length a) 16 e)
 
 pub within : (first count : ℕ) → first + count ≤ limit → beyond first count ≡ false
-unfolding beyond
+unfolding beyondWithin
 within first count h = le-ltb limit (first + count) h
 
 -- too little room is no room

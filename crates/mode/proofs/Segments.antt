@@ -11,7 +11,7 @@ use lib.Dec.{eqb}
 use borrow.Author.Tests.{eq-eqb}
 use Rattle.fips197.specs.Aes.{Key}
 use Rattle.mode.specs.Mode.{Cipher, Lawful, RunRecord, inWords, pass, recordOf}
-use Rattle.mode.specs.Table.{beyond, anyBeyond, apart, limit}
+use Rattle.mode.specs.Table.{beyond, anyBeyond, anyBeyondWithin, apart, limit}
 use Rattle.mode.specs.Calls.{blocksOfRun, joined, joinedOnto, joinedAll}
 use Rattle.mode.specs.Parallel.{Work, sourceOf, ivOf, Fits, Run, Segment, pending, recorded, blocksOfRuns, runsIn, recordIn, bytesIn, isRecorded, runsOf, bytesOfSegments, blocksIn, noSegment, segment, consecutive, AllRecorded, recordsAt}
 use Rattle.blocks.specs.Bytes.{Block}
@@ -152,7 +152,7 @@ module _ (c : Cipher) (key : List ℕ) (w : Work) where
 
   -- no record is beyond the limit
   pub none-beyond : (xs : List Segment) (is : List ℕ) → Sound [] xs → length (blocksIn xs) ≤ limit → AllRecorded xs is → anyBeyond inWords (recordsAt xs is) ≡ false
-  unfolding AllRecorded anyBeyond
+  unfolding AllRecorded anyBeyondWithin
   none-beyond xs [] s h r = refl
   none-beyond xs (i ∷ is) s h r =
       let one : beyond ((recordIn (segment xs i)) .first) ((recordIn (segment xs i)) .count) ≡ false = within-one [] xs i s (r .0) (omega arith) in

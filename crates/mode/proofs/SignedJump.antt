@@ -12,7 +12,7 @@ use Rattle.blocks.proofs.Sign.{abs-neg}
 use Rattle.gf128.specs.Gf128.{jump, jumpBy}
 use Rattle.gf128.proofs.JumpBy.{block-jumpBy, jumpBy-add, jumpBy-undone}
 use Rattle.mode.specs.Mode.{Cipher, Lawful, startMask}
-use Rattle.mode.specs.Table.{decide, tooFar, limit}
+use Rattle.mode.specs.Table.{decide, tooFarWithin, limit}
 use Rattle.mode.specs.Calls.{jumpMask, jumpRows}
 use Rattle.mode.specs.Demands.{InRange, JumpsTo, SignedJump}
 use Rattle.mode.proofs.Runs.{is16}
@@ -21,7 +21,7 @@ use Rattle.mode.proofs.Decisions.{passed-rows, outcome-gives}
 use Rattle.mode.proofs.Halves.{start-block}
 
 jumps : (mask : List ℕ) (d : ℤ) → length mask ≡ 16 → InRange d → JumpsTo mask d (jumpBy d mask)
-unfolding jumpMask tooFar
+unfolding jumpMask tooFarWithin
 jumps mask d h r room l =
     outcome-gives (decide (jumpRows mask d room) (jumpBy d mask)) (jumpBy d mask) (jumpBy d mask) room
     (passed-rows (jumpRows mask d room) (jumpBy d mask) (is16 mask h, (le-ltb limit (natAbs d) r, (le-ltb room 16 l, tt))))

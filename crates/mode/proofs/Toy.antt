@@ -14,8 +14,8 @@ use Rattle.blocks.proofs.XorBytes.{xorBytes-cancel, block-xor}
 use Rattle.gf128.specs.Gf128.{timesX, jump, carry, shiftLeft, reduction}
 use Rattle.fips197.specs.Aes.{KeyLength, short, long, Key}
 use Rattle.mode.specs.Mode.{Cipher, Lawful, zeroBlock, keyBlock, blocksOf, padded, encrypt, startMask, middletext, written, pass, unbroken, recordOf, ivPart, cipherPart, tagPart, encryptedTag, hashedTag, Finish, byCipher, unbrokenTag, sealedRecord}
-use Rattle.mode.specs.Table.{decide, notKey, not16, unaligned, beyond, anyBeyond, apart, none, notWhole, notTag, notSealed, zeroMask}
-use Rattle.mode.specs.Calls.{unalignedRun, blocksOfRun, outcomeBy, joined, joinedOnto, joinedAll, joinTwo, joinList, passFrom, runRecord, sealRun, checkRun, closingTag, close, test, openSealed, openRows, notPadded, orEmpty, unpadded, unpadFrom, plaintextOf, decrypted}
+use Rattle.mode.specs.Table.{decide, notKey, not16, unaligned, beyondWithin, anyBeyondWithin, apart, none, notWhole, notTag, notSealedWithin, zeroMask}
+use Rattle.mode.specs.Calls.{unalignedRun, blocksOfRun, outcomeBy, joined, joinedOnto, joinedAll, joinTwo, joinList, passFrom, runRecord, sealRun, checkRun, closingTag, close, test, openSealed, openRowsWithin, notPadded, orEmpty, unpadded, unpadFrom, plaintextOf, decrypted}
 use Rattle.mode.specs.Parallel.{sealing, checking, sourceOf, finishOf, ivOf, textOf, lastKind, allBlocks, Fits, Cut, Setting, WellFormed, runsFrom, blocksOfRuns, runsIn, recordIn, bytesIn, isRecorded, runsOf, bytesOfSegments, blocksIn, consecutive, AllRecorded, Allowed, mergeBy, recordBy, headOr, firstRun, empties, start, roomOf, outcomeOfRun, runOutcome, answerOf, after, afterAll, EachCall}
 use Rattle.mode.specs.Demands.{whole, wholeTag, recordOfSegments, ciphertextOfSegment, Expected, TestedAs}
 use Rattle.fips197.proofs.Keys.{at-least-16}
@@ -61,7 +61,7 @@ toy-lawful =
 
 -- to unfold this is to unfold all that a small case computes by
 unfoldable pub computed : Unit {0}
-unfolding xorBytes firstBlocks same concat num lowBytes bytesOf wordsOf timesX jump carry shiftLeft reduction blocksOf padded keyBlock encrypt startMask middletext written pass unbroken recordOf ivPart cipherPart tagPart encryptedTag hashedTag unbrokenTag sealedRecord decide notKey not16 unaligned beyond anyBeyond apart none notWhole notTag notSealed zeroMask unalignedRun blocksOfRun outcomeBy joined joinedOnto joinedAll joinTwo joinList passFrom runRecord sealRun checkRun closingTag close test openSealed openRows notPadded orEmpty unpadded unpadFrom plaintextOf decrypted sourceOf finishOf ivOf textOf lastKind allBlocks Fits Cut runsFrom blocksOfRuns runsIn recordIn bytesIn isRecorded runsOf bytesOfSegments blocksIn consecutive AllRecorded Allowed mergeBy recordBy headOr firstRun empties start roomOf outcomeOfRun runOutcome answerOf after afterAll EachCall whole wholeTag recordOfSegments ciphertextOfSegment Expected TestedAs
+unfolding xorBytes firstBlocks same concat num lowBytes bytesOf wordsOf timesX jump carry shiftLeft reduction blocksOf padded keyBlock encrypt startMask middletext written pass unbroken recordOf ivPart cipherPart tagPart encryptedTag hashedTag unbrokenTag sealedRecord decide notKey not16 unaligned beyondWithin anyBeyondWithin apart none notWhole notTag notSealedWithin zeroMask unalignedRun blocksOfRun outcomeBy joined joinedOnto joinedAll joinTwo joinList passFrom runRecord sealRun checkRun closingTag close test openSealed openRowsWithin notPadded orEmpty unpadded unpadFrom plaintextOf decrypted sourceOf finishOf ivOf textOf lastKind allBlocks Fits Cut runsFrom blocksOfRuns runsIn recordIn bytesIn isRecorded runsOf bytesOfSegments blocksIn consecutive AllRecorded Allowed mergeBy recordBy headOr firstRun empties start roomOf outcomeOfRun runOutcome answerOf after afterAll EachCall whole wholeTag recordOfSegments ciphertextOfSegment Expected TestedAs
 computed = tt
 
 abbrev pub aKey : List ℕ

@@ -11,8 +11,8 @@ use Rattle.blocks.specs.Bytes.{xorBytes, Block, same}
 use Rattle.blocks.proofs.XorBytes.{xorBytes-zeros}
 use Rattle.fips197.specs.Aes.{KeyLength, Key}
 use Rattle.mode.specs.Mode.{Cipher, Lawful, RunRecord, zeroBlock, keyBlock, encrypt, startMask}
-use Rattle.mode.specs.Table.{Answer, decide, anyBeyond, apart, none, zeroMask}
-use Rattle.mode.specs.Calls.{sealRun, checkRun, joinList, close, test, seal, openRows, openSealed, callsOf}
+use Rattle.mode.specs.Table.{Answer, decide, anyBeyondWithin, apart, none, zeroMask}
+use Rattle.mode.specs.Calls.{sealRun, checkRun, joinList, close, test, seal, openRowsWithin, openSealed, callsOf}
 use Rattle.mode.specs.Parallel.{ivOf, Setting, WellFormed, Run, Segment, empties, isRecorded, segment, Call, runAt, joinPair, joinMany, AllRecorded, Allowed, mergeBy, recordBy, start, roomOf, runOutcome, answerOf, after, afterAll, EachCall}
 use Rattle.mode.specs.Demands.{Refuses, ciphertextOfSegment, ZeroMask, zeroMaskIv, without, AsBefore, RunRefused, ZeroMaskRack}
 use Rattle.fips197.proofs.Keys.{is-key}
@@ -105,7 +105,7 @@ module _ (c : Cipher) (laws : Lawful c) where
 -- ---- every call refuses them
 
 pub zero-mask : (c : Cipher) → Lawful c → ZeroMask c
-unfolding decide seal openSealed openRows sealRun checkRun close test
+unfolding decide seal openSealed openRowsWithin sealRun checkRun close test
 zero-mask c laws =
     record {
       exactly = exactly c laws;
@@ -122,7 +122,7 @@ zero-mask c laws =
 -- ---- every other pair: a row that does not hold may be left out
 
 pub as-before : (c : Cipher) → AsBefore c
-unfolding decide without seal openSealed openRows sealRun checkRun close test
+unfolding decide without seal openSealed openRowsWithin sealRun checkRun close test
 as-before c =
     record {
       of-seal = λ t key iv message room nz. rw nz;
@@ -163,7 +163,7 @@ module _ (c : Cipher) (laws : Lawful c) (s : Setting) (z : zeroMask c (s .key) (
       let r = run-refused i room (m .0) (m .1) in
       (r, ap (λ (a : Answer RunRecord). recordBy a (runOutcome (callsOf c) s (start s) i room) (start s) i) (r .answers) ∙ (unfold recordBy in refl))
   step (joinPair i j) m = absurd (empty-at i (m .0 .0))
-  step (joinMany []) m = (tt, unfold mergeBy joinList decide anyBeyond apart none in refl)
+  step (joinMany []) m = (tt, unfold mergeBy joinList decide anyBeyondWithin apart none in refl)
   step (joinMany (i ∷ is)) m = absurd (empty-at i (m .0 .0))
 
   steps : (calls : List Call) → EachCall (callsOf c) s Allowed (start s) calls

@@ -1,4 +1,5 @@
--- What each call answers: a total function of the contents handed in and of the length of the lent output, and of nothing else.
+-- What each call answers: a total function of the contents handed in and of the length of the lent output, and of nothing else. A name that ends in
+-- `Within` is the call with any limit n; the call itself has `limit`.
 use mathlib.Core.Option.{Option, some, none as no-message}
 use mathlib.Core.List.{List, [], _∷_, _++_}
 use mathlib.Core.Bool.{Bool, true, false, cond, not}
@@ -9,7 +10,7 @@ use Rattle.blocks.specs.Bytes.{xorBytes, same, zeros}
 use Rattle.gf128.specs.Gf128.{timesX, jump, jumpBy}
 use Rattle.sha1.specs.Sha1.{sha1}
 use Rattle.mode.specs.Mode.{Cipher, Finish, Source, plaintext, ciphertext, Pass, Form, RunRecord, inWords, blocksOf, padded, zeroBlock, startMask, middletext, pass, unbrokenTag, sealedRecord, ivPart, cipherPart, tagPart}
-use Rattle.mode.specs.Table.{Answer, refused, given, decide, notKey, not16, unaligned, tooLong, notTag, notSealed, beyond, anyBeyond, tooFar, unhashable, apart, none, notWhole, zeroMask, tooShort}
+use Rattle.mode.specs.Table.{Answer, refused, given, decide, limit, notKey, not16, unaligned, tooLongWithin, notTag, notSealedWithin, beyondWithin, anyBeyondWithin, tooFarWithin, unhashable, apart, none, notWhole, zeroMask, tooShort}
 -- the code's answers, as it declares them
 pub use Rattle.mode.specs.declared.Written.{Written}
 pub use Rattle.mode.specs.declared.RunAnswer.{RunAnswer}
@@ -42,24 +43,30 @@ unalignedRun middle bytes = unaligned bytes
 unalignedRun last bytes = false
 
 module _ (c : Cipher) where
-  abbrev pub sealRunRows : List ℕ → List ℕ → ℕ → Kind → List ℕ → ℕ → List (ℕ × Bool)
-  sealRunRows key iv first kind bytes room =
+  abbrev pub sealRunRowsWithin : ℕ → List ℕ → List ℕ → ℕ → Kind → List ℕ → ℕ → List (ℕ × Bool)
+  sealRunRowsWithin n key iv first kind bytes room =
       (1, notKey key)
       ∷ (2, not16 iv)
       ∷ (3, unalignedRun kind bytes)
-      ∷ (4, beyond first (length (blocksOfRun kind bytes)))
+      ∷ (4, beyondWithin n first (length (blocksOfRun kind bytes)))
       ∷ (10, zeroMask c key iv)
       ∷ (5, tooShort room (16 * length (blocksOfRun kind bytes)))
       ∷ []
 
-  abbrev pub checkRunRows : List ℕ → List ℕ → ℕ → List ℕ → List (ℕ × Bool)
-  checkRunRows key iv first bytes =
+  abbrev pub checkRunRowsWithin : ℕ → List ℕ → List ℕ → ℕ → List ℕ → List (ℕ × Bool)
+  checkRunRowsWithin n key iv first bytes =
       (1, notKey key)
       ∷ (2, not16 iv)
       ∷ (3, unaligned bytes)
-      ∷ (4, beyond first (length (blocksOf bytes)))
+      ∷ (4, beyondWithin n first (length (blocksOf bytes)))
       ∷ (10, zeroMask c key iv)
       ∷ []
+
+  abbrev pub sealRunRows : List ℕ → List ℕ → ℕ → Kind → List ℕ → ℕ → List (ℕ × Bool)
+  sealRunRows = sealRunRowsWithin limit
+
+  abbrev pub checkRunRows : List ℕ → List ℕ → ℕ → List ℕ → List (ℕ × Bool)
+  checkRunRows = checkRunRowsWithin limit
 
   -- step 2 over a run that starts at block `first`: its mask is the start mask jumped by `first`
   unfoldable pub passFrom : Source → List ℕ → List ℕ → ℕ → List (List ℕ) → Pass
@@ -71,14 +78,20 @@ module _ (f : Form) (c : Cipher) where
   runRecord s key iv first blocks = f .make first (length blocks) ((passFrom c s key iv first blocks) .preauthenticator)
 
   -- SEAL A RUN
-  unfoldable pub sealRun : List ℕ → List ℕ → ℕ → Kind → List ℕ → ℕ → Outcome (f .Record)
-  sealRun key iv first kind bytes room =
+  abbrev pub sealRunWithin : ℕ → List ℕ → List ℕ → ℕ → Kind → List ℕ → ℕ → Outcome (f .Record)
+  sealRunWithin n key iv first kind bytes room =
       let blocks = blocksOfRun kind bytes in
-      outcomeBy (decide (sealRunRows c key iv first kind bytes room) (runRecord plaintext key iv first blocks)) ((passFrom c plaintext key iv first blocks) .output) room
+      outcomeBy (decide (sealRunRowsWithin c n key iv first kind bytes room) (runRecord plaintext key iv first blocks)) ((passFrom c plaintext key iv first blocks) .output) room
+
+  unfoldable pub sealRun : List ℕ → List ℕ → ℕ → Kind → List ℕ → ℕ → Outcome (f .Record)
+  sealRun key iv first kind bytes room = sealRunWithin limit key iv first kind bytes room
 
   -- CHECK A RUN of ciphertext: the record that sealing would give, and no plaintext
+  abbrev pub checkRunWithin : ℕ → List ℕ → List ℕ → ℕ → List ℕ → Answer (f .Record)
+  checkRunWithin n key iv first bytes = decide (checkRunRowsWithin c n key iv first bytes) (runRecord ciphertext key iv first (blocksOf bytes))
+
   unfoldable pub checkRun : List ℕ → List ℕ → ℕ → List ℕ → Answer (f .Record)
-  checkRun key iv first bytes = decide (checkRunRows c key iv first bytes) (runRecord ciphertext key iv first (blocksOf bytes))
+  checkRun key iv first bytes = checkRunWithin limit key iv first bytes
 
 -- ---- records, in any form
 
@@ -102,28 +115,43 @@ module _ (f : Form) where
   joinedAll (r ∷ rs) = joinedOnto r rs
 
   -- JOIN two records
+  abbrev pub joinTwoRowsWithin : ℕ → f .Record → f .Record → List (ℕ × Bool)
+  joinTwoRowsWithin n l r = (4, anyBeyondWithin n f (l ∷ r ∷ [])) ∷ (8, apart f (l ∷ r ∷ [])) ∷ []
+
   abbrev pub joinTwoRows : f .Record → f .Record → List (ℕ × Bool)
-  joinTwoRows l r = (4, anyBeyond f (l ∷ r ∷ [])) ∷ (8, apart f (l ∷ r ∷ [])) ∷ []
+  joinTwoRows = joinTwoRowsWithin limit
+
+  abbrev pub joinTwoWithin : ℕ → f .Record → f .Record → Answer (f .Record)
+  joinTwoWithin n l r = decide (joinTwoRowsWithin n l r) (joined l r)
 
   unfoldable pub joinTwo : f .Record → f .Record → Answer (f .Record)
-  joinTwo l r = decide (joinTwoRows l r) (joined l r)
+  joinTwo l r = joinTwoWithin limit l r
 
   -- JOIN A LENT LIST: row 4 of any record beats row 8 of any pair
+  abbrev pub joinListRowsWithin : ℕ → List (f .Record) → List (ℕ × Bool)
+  joinListRowsWithin n rs = (4, anyBeyondWithin n f rs) ∷ (8, apart f rs) ∷ (9, none rs) ∷ []
+
   abbrev pub joinListRows : List (f .Record) → List (ℕ × Bool)
-  joinListRows rs = (4, anyBeyond f rs) ∷ (8, apart f rs) ∷ (9, none rs) ∷ []
+  joinListRows = joinListRowsWithin limit
+
+  abbrev pub joinListWithin : ℕ → List (f .Record) → Answer (f .Record)
+  joinListWithin n rs = decide (joinListRowsWithin n rs) (joinedAll rs)
 
   unfoldable pub joinList : List (f .Record) → Answer (f .Record)
-  joinList rs = decide (joinListRows rs) (joinedAll rs)
+  joinList rs = joinListWithin limit rs
 
   module _ (c : Cipher) where
-    abbrev pub closeRows : List ℕ → List ℕ → f .Record → List (ℕ × Bool)
-    closeRows key iv r =
+    abbrev pub closeRowsWithin : ℕ → List ℕ → List ℕ → f .Record → List (ℕ × Bool)
+    closeRowsWithin n key iv r =
         (1, notKey key)
         ∷ (2, not16 iv)
-        ∷ (4, beyond (f .first r) (f .count r))
+        ∷ (4, beyondWithin n (f .first r) (f .count r))
         ∷ (9, notWhole f r)
         ∷ (10, zeroMask c key iv)
         ∷ []
+
+    abbrev pub closeRows : List ℕ → List ℕ → f .Record → List (ℕ × Bool)
+    closeRows = closeRowsWithin limit
 
   module _ (t : Finish) (c : Cipher) where
     -- the tag of a whole record
@@ -131,23 +159,32 @@ module _ (f : Form) where
     closingTag key iv r = t .tagFrom c key (f .preauthenticator r) (jump (f .count r) (startMask c key iv))
 
     -- CLOSE a record into its tag
+    abbrev pub closeWithin : ℕ → List ℕ → List ℕ → f .Record → Answer (List ℕ)
+    closeWithin n key iv r = decide (closeRowsWithin c n key iv r) (closingTag key iv r)
+
     unfoldable pub close : List ℕ → List ℕ → f .Record → Answer (List ℕ)
-    close key iv r = decide (closeRows c key iv r) (closingTag key iv r)
+    close key iv r = closeWithin limit key iv r
 
     -- TEST a tag against a record: it passes if closing gives that tag
-    abbrev pub testRows : List ℕ → List ℕ → f .Record → List ℕ → List (ℕ × Bool)
-    testRows key iv r tag =
+    abbrev pub testRowsWithin : ℕ → List ℕ → List ℕ → f .Record → List ℕ → List (ℕ × Bool)
+    testRowsWithin n key iv r tag =
         (1, notKey key)
         ∷ (2, not16 iv)
         ∷ (3, notTag t tag)
-        ∷ (4, beyond (f .first r) (f .count r))
+        ∷ (4, beyondWithin n (f .first r) (f .count r))
         ∷ (9, notWhole f r)
         ∷ (10, zeroMask c key iv)
         ∷ (6, not (same (closingTag key iv r) tag))
         ∷ []
 
+    abbrev pub testRows : List ℕ → List ℕ → f .Record → List ℕ → List (ℕ × Bool)
+    testRows = testRowsWithin limit
+
+    abbrev pub testWithin : ℕ → List ℕ → List ℕ → f .Record → List ℕ → Answer (Unit {0})
+    testWithin n key iv r tag = decide (testRowsWithin n key iv r tag) tt
+
     unfoldable pub test : List ℕ → List ℕ → f .Record → List ℕ → Answer (Unit {0})
-    test key iv r tag = decide (testRows key iv r tag) tt
+    test key iv r tag = testWithin limit key iv r tag
 
 -- ---- whole lists
 
@@ -173,18 +210,24 @@ orEmpty no-message = []
 orEmpty (some message) = message
 
 module _ (t : Finish) (c : Cipher) where
-  abbrev pub sealRows : List ℕ → List ℕ → List ℕ → ℕ → List (ℕ × Bool)
-  sealRows key iv message room =
+  abbrev pub sealRowsWithin : ℕ → List ℕ → List ℕ → List ℕ → ℕ → List (ℕ × Bool)
+  sealRowsWithin n key iv message room =
       (1, notKey key)
       ∷ (2, not16 iv)
-      ∷ (3, tooLong message)
+      ∷ (3, tooLongWithin n message)
       ∷ (10, zeroMask c key iv)
       ∷ (5, tooShort room (length (sealedRecord t c key iv message)))
       ∷ []
 
+  abbrev pub sealRows : List ℕ → List ℕ → List ℕ → ℕ → List (ℕ × Bool)
+  sealRows = sealRowsWithin limit
+
   -- SEAL a message: the answer is the sealed record
+  abbrev pub sealWithin : ℕ → List ℕ → List ℕ → List ℕ → ℕ → Outcome (List ℕ)
+  sealWithin n key iv message room = outcomeBy (decide (sealRowsWithin n key iv message room) (sealedRecord t c key iv message)) (sealedRecord t c key iv message) room
+
   unfoldable pub seal : List ℕ → List ℕ → List ℕ → ℕ → Outcome (List ℕ)
-  seal key iv message room = outcomeBy (decide (sealRows key iv message room) (sealedRecord t c key iv message)) (sealedRecord t c key iv message) room
+  seal key iv message room = sealWithin limit key iv message room
 
 module _ (c : Cipher) where
   -- the plaintext: the first half run backwards on the middletext, plus the mask
@@ -202,28 +245,40 @@ module _ (t : Finish) (c : Cipher) where
   messageOf key sealed = orEmpty (unpadded (plaintextOf key sealed))
 
   -- Ticket P6: row 5 compares the output with the message, and comes after 7.
-  unfoldable pub openRows : List ℕ → List ℕ → ℕ → List (ℕ × Bool)
-  openRows key sealed room =
+  unfoldable pub openRowsWithin : ℕ → List ℕ → List ℕ → ℕ → List (ℕ × Bool)
+  openRowsWithin n key sealed room =
       (1, notKey key)
-      ∷ (3, notSealed t sealed)
+      ∷ (3, notSealedWithin n t sealed)
       ∷ (10, zeroMask c key (ivPart sealed))
       ∷ (6, not (same (unbrokenTag t c ciphertext key (ivPart sealed) (blocksOf (cipherPart t sealed))) (tagPart t sealed)))
       ∷ (7, notPadded (unpadded (plaintextOf key sealed)))
       ∷ (5, tooShort room (length (messageOf key sealed)))
       ∷ []
 
+  abbrev pub openRows : List ℕ → List ℕ → ℕ → List (ℕ × Bool)
+  openRows = openRowsWithin limit
+
   -- OPEN a sealed record: the answer is the message
+  abbrev pub openWithin : ℕ → List ℕ → List ℕ → ℕ → Outcome (List ℕ)
+  openWithin n key sealed room = outcomeBy (decide (openRowsWithin n key sealed room) (messageOf key sealed)) (messageOf key sealed) room
+
   unfoldable pub openSealed : List ℕ → List ℕ → ℕ → Outcome (List ℕ)
-  openSealed key sealed room = outcomeBy (decide (openRows key sealed room) (messageOf key sealed)) (messageOf key sealed) room
+  openSealed key sealed room = openWithin limit key sealed room
 
 -- ---- masks
 
+abbrev pub jumpRowsWithin : ℕ → List ℕ → ℤ → ℕ → List (ℕ × Bool)
+jumpRowsWithin n mask distance room = (3, not16 mask) ∷ (4, tooFarWithin n distance) ∷ (5, tooShort room 16) ∷ []
+
 abbrev pub jumpRows : List ℕ → ℤ → ℕ → List (ℕ × Bool)
-jumpRows mask distance room = (3, not16 mask) ∷ (4, tooFar distance) ∷ (5, tooShort room 16) ∷ []
+jumpRows = jumpRowsWithin limit
 
 -- JUMP a mask by a signed distance
+abbrev pub jumpMaskWithin : ℕ → List ℕ → ℤ → ℕ → Outcome (List ℕ)
+jumpMaskWithin n mask distance room = outcomeBy (decide (jumpRowsWithin n mask distance room) (jumpBy distance mask)) (jumpBy distance mask) room
+
 unfoldable pub jumpMask : List ℕ → ℤ → ℕ → Outcome (List ℕ)
-jumpMask mask distance room = outcomeBy (decide (jumpRows mask distance room) (jumpBy distance mask)) (jumpBy distance mask) room
+jumpMask mask distance room = jumpMaskWithin limit mask distance room
 
 -- ---- SHA-1 (ticket P4)
 

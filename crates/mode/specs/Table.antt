@@ -1,5 +1,5 @@
--- Why a list is refused: document 01's table, with ticket P8's row 1, ticket P4's row 3, ticket P3's row 10, and ticket P6's row 5 of opening. A row is a
--- number and whether its condition holds; the first row that holds, in the table's order, is the answer.
+-- Why a list is refused: document 01's table, with ticket P8's row 1, ticket P4's row 3, ticket P3's row 10, ticket P6's row 5 of opening, and ticket
+-- P7's limit. A row is a number and whether its condition holds; the first row that holds, in the table's order, is the answer.
 use mathlib.Core.Path.{_≡_}
 use mathlib.Core.List.{List, [], _∷_, _++_}
 use mathlib.Core.Bool.{Bool, true, false, cond, not, _||_}
@@ -54,17 +54,27 @@ pub record Decides (rows : List (ℕ × Bool)) (n : ℕ) : Type 0 where
   pub rows-are : rows ≡ above ++ (n, true) ∷ below
   pub none-above : NoneHolds above
 
--- THE LIMIT: the number of blocks that a list may have
+-- THE LIMIT: the number of blocks that a list may have (ticket P7)
 abbrev pub limit : ℕ
 limit = 1048576
 
--- so the longest message, whose padding fills the last block, has 63,999 bytes, and the longest sealed record 64,032, or 64,036 with the hash
--- finish
-abbrev pub longestMessage : ℕ
-longestMessage = 16 * limit - 1
+-- What speaks of the limit takes it as n: the names that end in `Within`. The calls have `limit` for n, by the names without it. Another n stands
+-- only where two limits are compared (`LowerLimit` on the demands page).
+module _ (n : ℕ) where
+  -- the longest message, whose padding fills the last block
+  abbrev pub longestMessageWithin : ℕ
+  longestMessageWithin = 16 * n - 1
 
+  abbrev pub longestSealedWithin : Finish → ℕ
+  longestSealedWithin t = 16 * n + overhead t
+
+-- 16,777,215
+abbrev pub longestMessage : ℕ
+longestMessage = longestMessageWithin limit
+
+-- 16,777,248, or 16,777,252 with the hash finish
 abbrev pub longestSealed : Finish → ℕ
-longestSealed t = 16 * limit + overhead t
+longestSealed = longestSealedWithin limit
 
 -- ---- the conditions
 
@@ -76,37 +86,52 @@ not16 bytes = not (eqb (length bytes) 16)
 unfoldable pub unaligned : List ℕ → Bool
 unaligned bytes = not (eqb (length bytes % 16) 0)
 
--- 3: a whole message over 63,999
-unfoldable pub tooLong : List ℕ → Bool
-tooLong message = ltb longestMessage (length message)
+-- 3: a whole message over the longest
+unfoldable pub tooLongWithin : ℕ → List ℕ → Bool
+tooLongWithin n message = ltb (longestMessageWithin n) (length message)
+
+abbrev pub tooLong : List ℕ → Bool
+tooLong = tooLongWithin limit
 
 -- 3: a tag that is not as long as the finish makes them
 unfoldable pub notTag : Finish → List ℕ → Bool
 notTag t tag = not (eqb (length tag) (t .tagLength))
 
 -- 3: a sealed record below the shortest, which has one block, above the longest, or of which IV and tag do not leave a multiple of 16. With 16
--- bytes of tag: below 48, above 64,032 or no multiple of 16; with 20: below 52, above 64,036 or not 36 over a multiple of 16.
-unfoldable pub notSealed : Finish → List ℕ → Bool
-notSealed t sealed =
+-- bytes of tag: below 48, above 16,777,248 or no multiple of 16; with 20: below 52, above 16,777,252 or not 36 over a multiple of 16.
+unfoldable pub notSealedWithin : ℕ → Finish → List ℕ → Bool
+notSealedWithin n t sealed =
     ltb (length sealed) (16 + overhead t)
-    || (ltb (longestSealed t) (length sealed) || not (eqb ((length sealed - overhead t) % 16) 0))
+    || (ltb (longestSealedWithin n t) (length sealed) || not (eqb ((length sealed - overhead t) % 16) 0))
+
+abbrev pub notSealed : Finish → List ℕ → Bool
+notSealed = notSealedWithin limit
 
 -- 3 (ticket P4): a text to SHA-1 over 64,032 bytes
 unfoldable pub unhashable : List ℕ → Bool
 unhashable text = ltb longestText (length text)
 
 -- 4: first block plus count above the limit
-unfoldable pub beyond : ℕ → ℕ → Bool
-beyond first count = ltb limit (first + count)
+unfoldable pub beyondWithin : ℕ → ℕ → ℕ → Bool
+beyondWithin n first count = ltb n (first + count)
+
+abbrev pub beyond : ℕ → ℕ → Bool
+beyond = beyondWithin limit
 
 -- 4: of any record handed in
-unfoldable pub anyBeyond : (f : Form) → List (f .Record) → Bool
-anyBeyond f [] = false
-anyBeyond f (r ∷ rs) = beyond (f .first r) (f .count r) || anyBeyond f rs
+unfoldable pub anyBeyondWithin : ℕ → (f : Form) → List (f .Record) → Bool
+anyBeyondWithin n f [] = false
+anyBeyondWithin n f (r ∷ rs) = beyondWithin n (f .first r) (f .count r) || anyBeyondWithin n f rs
+
+abbrev pub anyBeyond : (f : Form) → List (f .Record) → Bool
+anyBeyond = anyBeyondWithin limit
 
 -- 4: a jump of more blocks than the limit, either way
-unfoldable pub tooFar : ℤ → Bool
-tooFar distance = ltb limit (natAbs distance)
+unfoldable pub tooFarWithin : ℕ → ℤ → Bool
+tooFarWithin n distance = ltb n (natAbs distance)
+
+abbrev pub tooFar : ℤ → Bool
+tooFar = tooFarWithin limit
 
 -- 8: two records in turn where the left's first plus count is not the right's first
 unfoldable pub apart : (f : Form) → List (f .Record) → Bool

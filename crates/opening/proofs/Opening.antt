@@ -13,7 +13,7 @@ use Rattle.fips197.specs.Aes.{KeyLength}
 use Rattle.mode.specs.Mode.{Finish, overhead, ciphertext, blocksOf, ivPart, cipherPart, tagPart, unbrokenTag}
 use Rattle.mode.specs.Aes.{aes}
 use Rattle.mode.specs.Table.{Answer, refused, given, decide, firstRow, tooShort}
-use Rattle.mode.specs.Calls.{Outcome, outcomeBy, unpadded, notPadded, orEmpty, plaintextOf, messageOf, openRows, openSealed, writtenOf, writtenGiven}
+use Rattle.mode.specs.Calls.{Outcome, outcomeBy, unpadded, notPadded, orEmpty, plaintextOf, messageOf, openRows, openRowsWithin, openSealed, writtenOf, writtenGiven}
 use Rattle.mode.specs.Parallel.{Fits}
 use Rattle.mode.proofs.Answers.{refused-written, refused-output, given-written, given-output}
 use Rattle.mode.proofs.Passed.{head-passed, tail-passed, key-passed, sealed-lengths}
@@ -62,12 +62,12 @@ module _ (t : Finish) (key sealed : List ℕ) (room : ℕ) where
   byContents right = (6, not right) ∷ (7, notPadded (unpadded (plaintextOf t aes key sealed))) ∷ (5, tooShort room (length message)) ∷ []
 
   pub lengths-refused : (n : ℕ) → n ≡ firstRow (openFirstRows t key sealed) → (n ≡ 0 → ⊥) → decide (openRows t aes key sealed room) message ≡ refused n
-  unfolding openRows
+  unfolding openRowsWithin
   lengths-refused n e h = first-refuses (openFirstRows t key sealed) (byContents (same (tagGiven t key sealed) (tagPart t sealed))) message n (sym e) h
 
   module _ (e : firstRow (openFirstRows t key sealed) ≡ 0) where
     left-to-decide : decide (openRows t aes key sealed room) message ≡ decide (byContents (same (tagGiven t key sealed) (tagPart t sealed))) message
-    unfolding openRows
+    unfolding openRowsWithin
     left-to-decide = first-passes (openFirstRows t key sealed) (byContents (same (tagGiven t key sealed) (tagPart t sealed))) message tt e
 
     pub tag-differs : same (tagGiven t key sealed) (tagPart t sealed) ≡ false → decide (openRows t aes key sealed room) message ≡ refused 6

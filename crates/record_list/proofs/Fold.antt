@@ -11,7 +11,7 @@ use Rattle.mode.specs.Mode.{inWords}
 use Rattle.mode.specs.declared.RunRecord.{RunRecord}
 use Rattle.mode.specs.declared.RecordAnswer.{RecordAnswer}
 use Rattle.mode.specs.declared.power.LastPower.{LastPower}
-use Rattle.mode.specs.Table.{decide, limit, beyond, anyBeyond, apart, none}
+use Rattle.mode.specs.Table.{decide, limit, beyond, beyondWithin, anyBeyond, anyBeyondWithin, apart, none}
 use Rattle.mode.specs.Calls.{joined, joinedOnto, joinedAll, joinTwo, joinList, number, orElse, recordAnswerOf, refusedRecord}
 use Rattle.mode.specs.Powers.{noPower, powerFor, keptAfter, joinKeeping}
 use Rattle.record_list.specs.Onto.{kept, started, alone, unlessBeyond, unjoined, ontoOf, ontoAll}
@@ -37,7 +37,7 @@ after-four k (r ∷ rs) = after-four k rs
 
 -- 8 stands, unless a record is beyond the limit
 after-eight : (k : LastPower) (rs : List RunRecord) → ontoAll (kept (refusedRecord 8) k) rs ≡ kept (cond (anyBeyond inWords rs) (refusedRecord 4) (refusedRecord 8)) k
-unfolding ontoAll ontoOf unjoined unlessBeyond anyBeyond
+unfolding ontoAll ontoOf unjoined unlessBeyond anyBeyondWithin
 after-eight k [] = refl
 after-eight k (r ∷ rs) = by (beyond (r .first) (r .count)) (after-eight k rs)
   where
@@ -70,7 +70,7 @@ abbrev After : RunRecord → LastPower → List RunRecord → Type 0
 After l k rs = ontoAll (kept (alone l) k) rs ≡ kept (answerAfter l rs (anyBeyond inWords rs) (apart inWords (l ∷ rs))) (lastOf k (following l rs))
 
 after-given : (l : RunRecord) (k : LastPower) (rs : List RunRecord) → l .first + l .count ≤ limit → After l k rs
-unfolding ontoAll ontoOf anyBeyond beyond apart following lastOf joinTwo joinKeeping keptAfter joinedOnto decide recordAnswerOf number orElse
+unfolding ontoAll ontoOf anyBeyondWithin beyondWithin apart following lastOf joinTwo joinKeeping keptAfter joinedOnto decide recordAnswerOf number orElse
 after-given l k [] h = refl
 after-given l k (r ∷ rs) h =
     rw (le-ltb limit (l .first + l .count) h)
@@ -96,7 +96,7 @@ after-given l k (r ∷ rs) h =
 
 -- THE LAW: from no record, the answer to the list, and the power kept after the right records that were joined
 pub list-joined : (rs : List RunRecord) → ontoAll started rs ≡ kept (recordAnswerOf (joinList inWords rs)) (lastOf noPower (rights (joinedFront rs)))
-unfolding ontoAll ontoOf unjoined unlessBeyond anyBeyond beyond apart none joinList joinedAll joinedFront lastOf rights decide recordAnswerOf number orElse
+unfolding ontoAll ontoOf unjoined unlessBeyond anyBeyondWithin beyondWithin apart none joinList joinedAll joinedFront lastOf rights decide recordAnswerOf number orElse
 list-joined [] = refl
 list-joined (r ∷ rs) = by (ltb limit (r .first + r .count)) refl
   where

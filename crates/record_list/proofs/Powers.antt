@@ -9,7 +9,7 @@ use borrow.Author.Tests.{eqb-true}
 use Rattle.mode.specs.Mode.{inWords}
 use Rattle.mode.specs.declared.RunRecord.{RunRecord}
 use Rattle.mode.specs.declared.power.LastPower.{LastPower}
-use Rattle.mode.specs.Table.{decide, beyond, anyBeyond, apart, none}
+use Rattle.mode.specs.Table.{decide, beyond, anyBeyond, anyBeyondWithin, apart, none}
 use Rattle.mode.specs.Calls.{joinedAll, joinList, number, recordAnswerOf}
 use Rattle.mode.specs.Powers.{noPower, workedOut, powerFor}
 use Rattle.record_list.specs.Counted.{changes, powersOf, following, joinedFront}
@@ -43,7 +43,7 @@ total-powers (l ∷ r ∷ rs) = total-changes (workedOut noPower (r .count)) rs 
 -- ---- a list that is joined is its own front
 
 all-follow : (l : RunRecord) (rs : List RunRecord) → anyBeyond inWords rs ≡ false → apart inWords (l ∷ rs) ≡ false → following l rs ≡ rs
-unfolding anyBeyond apart following
+unfolding anyBeyondWithin apart following
 all-follow l [] h g = refl
 all-follow l (r ∷ rs) h g = by (beyond (r .first) (r .count)) (not (eqb (l .first + l .count) (r .first))) h g (all-follow r rs)
   where
@@ -54,7 +54,7 @@ all-follow l (r ∷ rs) h g = by (beyond (r .first) (r .count)) (not (eqb (l .fi
     by true e h g others = absurd (let z : _≡_ {A = ℕ} 0 1 = cc in omega arith)
 
 pub whole-front : (rs : List RunRecord) → (recordAnswerOf (joinList inWords rs)) .refusal ≡ 0 → joinedFront rs ≡ rs
-unfolding joinList decide recordAnswerOf number joinedFront anyBeyond
+unfolding joinList decide recordAnswerOf number joinedFront anyBeyondWithin
 whole-front [] e = refl
 whole-front (l ∷ rs) e = by (beyond (l .first) (l .count)) (anyBeyond inWords rs) (apart inWords (l ∷ rs)) refl refl e
   where

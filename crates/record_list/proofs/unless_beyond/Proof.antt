@@ -3,7 +3,7 @@ use borrow.Author.Needs.{needs}
 use borrow.Author.Tests.{lt-ltb, le-ltb}
 use mathlib.Core.Path.{refl}
 use Prim.Native.Nat.{_+_}
-use Rattle.mode.specs.Table.{limit, beyond}
+use Rattle.mode.specs.Table.{limit, beyond, beyondWithin}
 use Rattle.record_list.specs.Onto.{unlessBeyond}
 use Rattle.record_list.proofs.unless_beyond.Statement.{statement}
 use Rattle.record_list.proofs.unless_beyond.Tie as tie
@@ -21,13 +21,13 @@ refused-requires : tie.Need-refused-requires
 refused-requires c κs = search needs
 
 returns : tie.Need-returns
-unfolding unlessBeyond beyond
+unfolding unlessBeyond beyondWithin
 returns c =
     let r = c .before .before .before .before .args .next in
     rw (lt-ltb limit (r .first + r .count) (c .before .if1 .taken)) (c .refused .ensures)
 
 returns-2 : tie.Need-returns-2
-unfolding unlessBeyond beyond
+unfolding unlessBeyond beyondWithin
 returns-2 c =
     let r = c .before .before .before .args .next in
     rw (le-ltb limit (r .first + r .count) (c .if1 .left)) refl
