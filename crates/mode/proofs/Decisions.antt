@@ -29,7 +29,7 @@ unfolding decide
 passed-rows [] a h = refl
 passed-rows (row ∷ rows) a h = rw (h .0) (passed-rows rows a (h .1))
 
-refuses : {A : Type 0} (above below : List (ℕ × Bool)) (a : A) (n : ℕ) → NoneHolds above → decide (above ++ (n, true) ∷ below) a ≡ refused n
+pub refuses : {A : Type 0} (above below : List (ℕ × Bool)) (a : A) (n : ℕ) → NoneHolds above → decide (above ++ (n, true) ∷ below) a ≡ refused n
 unfolding decide
 refuses [] below a n h = refl
 refuses (row ∷ above) below a n h = rw (h .0) (refuses above below a n (h .1))

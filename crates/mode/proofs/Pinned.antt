@@ -1,6 +1,7 @@
 -- What the demands may not lose: whatever sealing and opening take may be cut, at every block; every call that document 01 allows is allowed, at
 -- every place; no pair is left out but one for each key that lends zeros, every call refuses that one, and its row is all that is new; keys
--- have 16 bytes or 32; tags 16 or 20, and records the lengths that go with them; jumps go both ways up to the limit; a list is opened into the
+-- have 16 bytes or 32; tags 16 or 20, and records the lengths that go with them; jumps go both ways up to the limit, which is ticket P7's, and what a
+-- lower one did not refuse has the same outcome; a list is opened into the
 -- space that it needs, and with the old size as before; the table's order is document 01's, opening's is ticket P6's, and no other order passes for
 -- either; every record in words is joined and closed as its bytes are.
 use mathlib.Core.Path.{_≡_, refl, sym, ap, ap₂, subst, _∙_}
@@ -20,13 +21,13 @@ use Rattle.blocks.proofs.Sign.{abs-neg}
 use Rattle.fips197.specs.KeyExpansion.{roundKeys}
 use Rattle.fips197.specs.Cipher.{cipher, invCipher, afterRound}
 use Rattle.fips197.specs.Aes.{KeyLength, short, long, Key}
-use Rattle.sha1.specs.Sha1.{sha1}
+use Rattle.sha1.specs.Sha1.{sha1, longestText}
 use Rattle.mode.specs.Mode.{Cipher, Finish, overhead, byCipher, bySha1, plaintext, ciphertext, RunRecord, inWords, ByteRecord, inBytes, zeroBlock, keyBlock, encrypt, startMask, blocksOf, ivPart, cipherPart, tagPart, sealedRecord, unbrokenTag, UnbrokenCheck}
-use Rattle.mode.specs.Table.{Answer, refused, given, decide, tableOrder, openOrder, inOrder, notKey, not16, unaligned, tooLong, notTag, notSealed, notSealedWithin, beyond, tooFar, tooFarWithin, apart, notWhole, zeroMask, tooShort, limit, longestMessage, longestSealed}
-use Rattle.mode.specs.Calls.{Outcome, Kind, middle, last, outcomeBy, blocksOfRun, unalignedRun, seal, openSealed, openRowsWithin, unpadded, notPadded, orEmpty, plaintextOf, passFrom, runRecord, sealRun, checkRun, joinTwo, closingTag, close, test, Calls, callsOf}
+use Rattle.mode.specs.Table.{Answer, refused, given, decide, tableOrder, openOrder, inOrder, notKey, not16, unaligned, tooLong, notTag, notSealed, notSealedWithin, beyond, tooFar, tooFarWithin, apart, notWhole, zeroMask, tooShort, limit, longestMessage, longestMessageWithin, longestSealed, longestSealedWithin, beyondWithin, anyBeyondWithin}
+use Rattle.mode.specs.Calls.{Outcome, Kind, middle, last, outcomeBy, blocksOfRun, unalignedRun, seal, sealWithin, openSealed, openWithin, openRowsWithin, unpadded, notPadded, orEmpty, plaintextOf, passFrom, runRecord, sealRun, checkRun, joinTwo, closingTag, close, test, Calls, callsOf}
 use Rattle.mode.specs.OpenBefore.{openRowsBefore, openBefore}
 use Rattle.mode.specs.Parallel.{sealing, checking, ivOf, lastKind, textOf, Fits, Cut, Setting, WellFormed, Segment, isRecorded, segment, Call, runAt, joinPair, joinMany, consecutive, AllRecorded, recordsAt, Allowed, start, roomOf, runOutcome, afterAll, EachCall}
-use Rattle.mode.specs.Demands.{IsAes, Aes128And256, KeyInStepOne, TwoFinishes, Gives, Refuses, InTable, NonzeroMask, SealedFrom, Demand2a, Demand2b, Demand2d, OldSize, Agrees, Demand3, ZeroMask, zeroMaskIv, without, AsBefore, Formed, inForm, mapAnswer, WordsAsBytes, RunRefused, ZeroMaskRack, JumpsTo, SignedJump}
+use Rattle.mode.specs.Demands.{IsAes, Aes128And256, KeyInStepOne, TwoFinishes, Gives, Refuses, InTable, NonzeroMask, SealedFrom, Demand2a, Demand2b, Demand2d, OldSize, Agrees, Demand3, ZeroMask, zeroMaskIv, without, AsBefore, Formed, inForm, mapAnswer, WordsAsBytes, RunRefused, ZeroMaskRack, JumpsTo, SignedJump, SameOr, SameOrInto, LowerLimit, LowerLimits}
 use Rattle.fips197.proofs.Keys.{is-key, isnt-key, has-key}
 use Rattle.mode.proofs.Keys.{keyBlock-short, keyBlock-first}
 use Rattle.mode.proofs.Rows.{is-whole}
@@ -35,6 +36,7 @@ use Rattle.mode.proofs.Same.{same-true}
 use Rattle.mode.proofs.InWords.{block-zero}
 use Rattle.mode.proofs.ZeroMask.{key-not-zero}
 use Rattle.mode.proofs.Demand2.{sealing-given, message-fits}
+use Rattle.mode.proofs.Decisions.{outcome-given-bytes}
 
 -- ---- what may be cut
 
@@ -329,6 +331,55 @@ pub records-refused : (map (recordRefused byCipher) (32 ∷ 47 ∷ 49 ∷ 52 ∷
     × (map (recordRefused bySha1) (36 ∷ 48 ∷ 51 ∷ 53 ∷ 64 ∷ 16777253 ∷ 16777268 ∷ []) ≡ replicate 7 true)
 unfolding recordRefused
 records-refused = (refl, refl)
+
+-- ---- the limit
+
+-- today's numbers; the longest text to SHA-1 is what it was
+pub numbers : (limit ≡ 1048576) × (longestMessage ≡ 16777215) × (map longestSealed (byCipher ∷ bySha1 ∷ []) ≡ 16777248 ∷ 16777252 ∷ []) × (longestText ≡ 64032)
+numbers = (refl, refl, refl, refl)
+
+-- those of before
+pub numbers-before : (longestMessageWithin 4000 ≡ 63999) × (map (longestSealedWithin 4000) (byCipher ∷ bySha1 ∷ []) ≡ 64032 ∷ 64036 ∷ [])
+numbers-before = (refl, refl)
+
+-- where either limit ends: one block more is beyond it, as a block of a run, of a record and of a jump either way
+abbrev blocksBeyond : ℕ → ℕ → List Bool
+blocksBeyond n k = beyondWithin n k 0 ∷ beyondWithin n 0 k ∷ anyBeyondWithin n inBytes (inBytes .make k 0 [] ∷ []) ∷ tooFarWithin n (pos k) ∷ tooFarWithin n (negℤ (pos k)) ∷ []
+
+pub last-block : (blocksBeyond limit 1048576 ≡ replicate 5 false) × (blocksBeyond 4000 4000 ≡ replicate 5 false)
+unfolding beyondWithin anyBeyondWithin tooFarWithin
+last-block = (refl, refl)
+
+pub one-block-more : (blocksBeyond limit 1048577 ≡ replicate 5 true) × (blocksBeyond 4000 4001 ≡ replicate 5 true)
+unfolding beyondWithin anyBeyondWithin tooFarWithin
+one-block-more = (refl, refl)
+
+-- Every lower limit is compared with; what it did not refuse, and what it reaches, comes to the same now; so a list that was sealed has the bytes that it would get now, and opens as it did
+module _ (c : Cipher) (d : LowerLimits c) where
+  pub every-lower : (n : ℕ) → n ≤ limit → LowerLimit c n
+  every-lower = d
+
+  pub not-refused : {A : Type 0} {longer : Type 0} (k : ℕ) (a b : Answer A) → SameOr longer k a b → (a ≡ refused k → ⊥) → a ≡ b
+  not-refused k a b (inl e) h = e
+  not-refused k a b (inr e) h = absurd (h (e .1))
+
+  pub reached : (t : Finish) (key sealed : List ℕ) (n room : ℕ) → n ≤ limit → length sealed ≤ 16 * n + overhead t → openWithin t c n key sealed room ≡ openSealed t c key sealed room
+  reached t key sealed n room h l = by ((d n h) .of-open t key sealed room)
+    where
+      by : SameOrInto (longestSealedWithin n t < length sealed) 3 room (openWithin t c n key sealed room) (openSealed t c key sealed room)
+          → openWithin t c n key sealed room ≡ openSealed t c key sealed room
+      by (inl e) = e
+      by (inr e) = absurd (let g : 16 * n + overhead t < length sealed = e .0 in omega (arith, g, l))
+
+  pub stored : (t : Finish) (key iv message r : List ℕ) (room : ℕ) → (sealWithin t c 4000 key iv message room) .answer ≡ given r → Gives (seal t c key iv message room) r r room
+  stored t key iv message r room e = by ((d 4000 (omega arith)) .of-seal t key iv message room)
+    where
+      by : SameOrInto (63999 < length message) 3 room (sealWithin t c 4000 key iv message room) (seal t c key iv message room) → Gives (seal t c key iv message room) r r room
+      by (inl p) = subst (λ (o : Outcome (List ℕ)). Gives o r r room) p ((outcome-given-bytes _ _ r room e) .1)
+      by (inr q) = absurd (let z = sym (q .1 .answers) ∙ e in let y : _≡_ {A = ℕ} 0 1 = cc in omega arith)
+
+  pub longer-list : (t : Finish) (key sealed : List ℕ) (room : ℕ) → KeyLength key → 64000 + overhead t < length sealed → Refuses (openWithin t c 4000 key sealed room) 3 room
+  longer-list t key sealed room hk l = (d 4000 (omega arith)) .longer-record t key sealed room hk l
 
 -- ---- row 1
 

@@ -11,7 +11,7 @@ use lib.Signed.{ltZ}
 use borrow.Author.Tests.{eq-eqb, ne-eqb, le-ltb, lt-ltb}
 use Rattle.blocks.specs.Bytes.{zeros}
 use Rattle.mode.specs.Mode.{Finish, overhead, RunRecord, inWords}
-use Rattle.mode.specs.Table.{Answer, refused, given, decide, firstRow, limit, longestMessage, longestSealed, not16, unaligned, tooLong, tooLongWithin, notTag, notSealed, notSealedWithin, beyond, beyondWithin, tooFar, tooFarWithin, notWhole}
+use Rattle.mode.specs.Table.{Answer, refused, given, decide, firstRow, limit, longestMessage, longestMessageWithin, longestSealed, longestSealedWithin, not16, unaligned, tooLong, tooLongWithin, notTag, notSealed, notSealedWithin, beyond, beyondWithin, tooFar, tooFarWithin, notWhole}
 use Rattle.mode.specs.Calls.{outcomeBy, number}
 
 -- ---- the first row
@@ -98,6 +98,10 @@ outcome-given a bytes room x e = ap (λ (b : Answer _). outcomeBy b bytes room) 
 
 -- ---- the conditions, as the code tests them
 
+pub or-true : (a b : Bool) → b ≡ true → (a || b) ≡ true
+or-true true b e = refl
+or-true false b e = e
+
 pub isnt16 : (a : List ℕ) → (length a ≡ 16 → ⊥) → not16 a ≡ true
 unfolding not16
 isnt16 a h = ap not (ne-eqb (length a) 16 h)
@@ -119,9 +123,10 @@ unfolding tooFarWithin
 is-outside (pos n) = refl
 is-outside (negsuc n) = or-false (ltb (limit - 1) n) ∙ sym (leb·suc-suc limit n)
 
-pub too-long : (m : List ℕ) → longestMessage < length m → tooLong m ≡ true
+-- with any limit
+pub too-long : (n : ℕ) (m : List ℕ) → longestMessageWithin n < length m → tooLongWithin n m ≡ true
 unfolding tooLongWithin
-too-long m h = lt-ltb longestMessage (length m) h
+too-long n m h = lt-ltb (longestMessageWithin n) (length m) h
 
 pub not-too-long : (m : List ℕ) → length m ≤ longestMessage → tooLong m ≡ false
 unfolding tooLongWithin
@@ -152,9 +157,10 @@ module _ (t : Finish) where
   unfolding notSealedWithin
   sealed-short s h = rw (lt-ltb (length s) (16 + overhead t) h)
 
-  pub sealed-long : (s : List ℕ) → 16 + overhead t ≤ length s → longestSealed t < length s → notSealed t s ≡ true
+  -- with any limit
+  pub sealed-long : (n : ℕ) (s : List ℕ) → longestSealedWithin n t < length s → notSealedWithin n t s ≡ true
   unfolding notSealedWithin
-  sealed-long s k h = rw (le-ltb (length s) (16 + overhead t) k, lt-ltb (longestSealed t) (length s) h)
+  sealed-long n s h = or-true (ltb (length s) (16 + overhead t)) _ (rw (lt-ltb (longestSealedWithin n t) (length s) h) refl)
 
   -- else the multiple of 16 decides
   pub sealed-rest : (s : List ℕ) → 16 + overhead t ≤ length s → length s ≤ longestSealed t → notSealed t s ≡ not (eqb ((length s - overhead t) % 16) 0)

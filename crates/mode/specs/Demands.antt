@@ -20,8 +20,8 @@ use Rattle.fips197.specs.Aes.{KeyLength, Key}
 use Rattle.fips197.specs.Cipher.{cipher, invCipher, afterRound}
 use Rattle.sha1.specs.Sha1.{sha1}
 use Rattle.mode.specs.Mode.{Cipher, Source, plaintext, ciphertext, Pass, Form, RunRecord, inWords, ByteRecord, inBytes, blocksOf, padded, zeroBlock, keyBlock, startMask, encrypt, pass, Finish, overhead, LawfulFinish, byCipher, bySha1, unbroken, unbrokenTag, recordOf, ivPart, cipherPart, tagPart, sealedRecord, UnbrokenCheck}
-use Rattle.mode.specs.Table.{Answer, refused, given, decide, tableOrder, openOrder, inOrder, NoneHolds, Decides, apart, notSealed, notWhole, zeroMask, limit, longestMessage}
-use Rattle.mode.specs.Calls.{Outcome, outcomeBy, Kind, blocksOfRun, unalignedRun, seal, sealRows, openSealed, openRows, unpadded, orEmpty, plaintextOf, passFrom, runRecord, sealRun, sealRunRows, checkRun, checkRunRows, joinTwo, joinTwoRows, joinList, joinListRows, joinedAll, closingTag, close, closeRows, test, testRows, jumpMask, jumpRows, sha1Rows, sha1Text, Calls, callsOf}
+use Rattle.mode.specs.Table.{Answer, refused, given, decide, tableOrder, openOrder, inOrder, NoneHolds, Decides, apart, notSealed, notWhole, zeroMask, limit, longestMessage, longestMessageWithin, longestSealedWithin, anyBeyondWithin}
+use Rattle.mode.specs.Calls.{Outcome, outcomeBy, Kind, blocksOfRun, unalignedRun, seal, sealWithin, sealRows, openSealed, openWithin, openRows, unpadded, orEmpty, plaintextOf, passFrom, runRecord, sealRun, sealRunWithin, sealRunRows, checkRun, checkRunWithin, checkRunRows, joinTwo, joinTwoWithin, joinTwoRows, joinList, joinListWithin, joinListRows, joinedAll, closingTag, close, closeWithin, closeRows, test, testWithin, testRows, jumpMask, jumpMaskWithin, jumpRows, sha1Rows, sha1Text, Calls, callsOf}
 use Rattle.mode.specs.OpenBefore.{openBefore}
 use Rattle.mode.specs.Parallel.{Work, sealing, checking, sourceOf, finishOf, ivOf, allBlocks, Setting, WellFormed, Run, Segment, recorded, recordIn, bytesIn, isRecorded, blocksIn, segment, Call, runAt, joinPair, joinMany, consecutive, recordsAt, Allowed, start, roomOf, runOutcome, answerOf, afterAll, EachCall}
 
@@ -291,6 +291,42 @@ OpensSealed t c =
 abbrev pub OldSize : Finish → Cipher → Type 0
 OldSize t c = (key sealed : List ℕ) (room : ℕ) → length (cipherPart t sealed) ≤ room → openSealed t c key sealed room ≡ openBefore t c key sealed room
 
+-- ---- beside demand 2: THE LIMIT (ticket P7). A machine whose limit is n blocks, as it was 4,000 before, comes in each call to what a machine of today
+-- comes to, in every field, unless what it is handed goes beyond n blocks and is refused for that. SHA-1 knows no limit of blocks.
+
+-- the same answer; or, of what is longer, the refusal with the number k
+abbrev pub SameOr : {A : Type 0} → Type 0 → ℕ → Answer A → Answer A → Type 0
+SameOr longer k a b = (a ≡ b) ⊎ (longer × (a ≡ refused k))
+
+abbrev pub SameOrInto : {A : Type 0} → Type 0 → ℕ → ℕ → Outcome A → Outcome A → Type 0
+SameOrInto longer k room o p = (o ≡ p) ⊎ (longer × Refuses o k room)
+
+pub record LowerLimit (c : Cipher) (n : ℕ) : Type 0 where
+  pub of-seal : (t : Finish) (key iv message : List ℕ) (room : ℕ)
+      → SameOrInto (longestMessageWithin n < length message) 3 room (sealWithin t c n key iv message room) (seal t c key iv message room)
+  pub of-open : (t : Finish) (key sealed : List ℕ) (room : ℕ)
+      → SameOrInto (longestSealedWithin n t < length sealed) 3 room (openWithin t c n key sealed room) (openSealed t c key sealed room)
+  pub of-seal-run : (key iv : List ℕ) (first : ℕ) (kind : Kind) (bytes : List ℕ) (room : ℕ)
+      → SameOrInto (n < first + length (blocksOfRun kind bytes)) 4 room (sealRunWithin inWords c n key iv first kind bytes room) (sealRun inWords c key iv first kind bytes room)
+  pub of-check-run : (key iv : List ℕ) (first : ℕ) (bytes : List ℕ)
+      → SameOr (n < first + length (blocksOf bytes)) 4 (checkRunWithin inWords c n key iv first bytes) (checkRun inWords c key iv first bytes)
+  pub of-join : (l r : RunRecord) → SameOr (anyBeyondWithin n inWords (l ∷ r ∷ []) ≡ true) 4 (joinTwoWithin inWords n l r) (joinTwo inWords l r)
+  pub of-join-list : (rs : List RunRecord) → SameOr (anyBeyondWithin n inWords rs ≡ true) 4 (joinListWithin inWords n rs) (joinList inWords rs)
+  pub of-close : (t : Finish) (key iv : List ℕ) (r : RunRecord) → SameOr (n < r .first + r .count) 4 (closeWithin inWords t c n key iv r) (close inWords t c key iv r)
+  pub of-test : (t : Finish) (key iv : List ℕ) (r : RunRecord) (tag : List ℕ)
+      → SameOr (n < r .first + r .count) 4 (testWithin inWords t c n key iv r tag) (test inWords t c key iv r tag)
+  pub of-jump : (mask : List ℕ) (distance : ℤ) (room : ℕ)
+      → SameOrInto (n < natAbs distance) 4 room (jumpMaskWithin n mask distance room) (jumpMask mask distance room)
+  -- and a longer list does get 3, to be opened or to be sealed, whatever is lent
+  pub longer-record : (t : Finish) (key sealed : List ℕ) (room : ℕ) → KeyLength key → longestSealedWithin n t < length sealed
+      → Refuses (openWithin t c n key sealed room) 3 room
+  pub longer-message : (t : Finish) (key iv message : List ℕ) (room : ℕ) → KeyLength key → length iv ≡ 16 → longestMessageWithin n < length message
+      → Refuses (sealWithin t c n key iv message room) 3 room
+
+-- of every limit up to today's
+abbrev pub LowerLimits : Cipher → Type 0
+LowerLimits c = (n : ℕ) → n ≤ limit → LowerLimit c n
+
 -- ---- beside demand 2: RECORDS IN WORDS (ticket P12)
 
 -- each byte form has one word form, and the reverse
@@ -389,7 +425,7 @@ pub record AsBefore (c : Cipher) : Type 0 where
 
 -- ---- beside demand 2: THE SIGNED JUMP (ticket P1), of the outcome that the call's contract cites
 
--- -4,000 to 4,000
+-- -1,048,576 to 1,048,576
 abbrev pub InRange : ℤ → Type 0
 InRange distance = natAbs distance ≤ limit
 

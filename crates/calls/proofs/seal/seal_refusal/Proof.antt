@@ -9,7 +9,7 @@ use native.Mathlib.Omega.{arith}
 use lib.ListN.{length}
 use Rattle.mode.specs.Mode.{finishNamed, sealedRecord}
 use Rattle.mode.specs.Aes.{aes}
-use Rattle.mode.specs.Table.{firstRow, notKey, not16, tooLong}
+use Rattle.mode.specs.Table.{firstRow, limit, notKey, not16, tooLong}
 use Rattle.fips197.proofs.Keys.{has-key}
 use Rattle.mode.proofs.Runs.{is16}
 use Rattle.mode.proofs.Rows.{row-holds, row-passes, no-row, isnt16, too-long, not-too-long}
@@ -33,7 +33,7 @@ returns-2 c =
 returns-3 : tie.Need-returns-3
 returns-3 c =
     let a = c .before .before .before .before .before .before .before .args in
-    sym (row-passes 1 _ _ (sym (c .before .before .before .not-key .ensures) ∙ c .before .before .if1 .left) ∙ row-passes 2 _ _ (is16 (a .iv .now) (c .before .if2 .left)) ∙ row-holds 3 _ _ (too-long (a .message .now) (c .if3 .taken)))
+    sym (row-passes 1 _ _ (sym (c .before .before .before .not-key .ensures) ∙ c .before .before .if1 .left) ∙ row-passes 2 _ _ (is16 (a .iv .now) (c .before .if2 .left)) ∙ row-holds 3 _ _ (too-long limit (a .message .now) (c .if3 .taken)))
 
 mul-needed : tie.Need-mul-needed
 mul-needed c = search needs

@@ -8,6 +8,7 @@ use lib.Dec.{eqb}
 use lib.ListN.{length}
 use Rattle.mode.specs.Mode.{finishNamed, overhead}
 use Rattle.mode.proofs.Finishes.{tag-within}
+use Rattle.mode.specs.Table.{limit}
 use Rattle.mode.proofs.Rows.{sealed-short, sealed-long, sealed-rest}
 use Rattle.opening.proofs.rows.not_sealed.Statement.{statement}
 use Rattle.opening.proofs.rows.not_sealed.Tie as tie
@@ -34,7 +35,7 @@ returns-2 : tie.Need-returns-2
 returns-2 c =
     let q = c .before in
     let a = q .before .before .before .args in
-    sym (sealed-long (finishNamed (a .finish)) (a .sealed .now) (least q) (omega (arith, least q, q .before .overhead .ensures, c .if2 .taken)))
+    sym (sealed-long (finishNamed (a .finish)) limit (a .sealed .now) (omega (arith, least q, q .before .overhead .ensures, c .if2 .taken)))
 
 returns-3 : tie.Need-returns-3
 returns-3 c =
