@@ -120,4 +120,4 @@ lower-limit c n h =
     }
 
 pub lower-limits : (c : Cipher) → LowerLimits c
-lower-limits = lower-limit
+lower-limits c n h = lower-limit c n (omega (arith, h))
