@@ -8,6 +8,7 @@ pub mod open; // open.rt: a record opened, and its answer compared
 pub mod file; // file.rt: a data file
 pub mod words; // words.rt: the words and numbers of a line
 pub mod call; // call.rt: one call into an output that held noise
+pub mod held; // held.rt: runs and tags held to values that are known
 pub mod reference; // reference.rt: records that a second program sealed
 
 // `name: agreed of all`
