@@ -1,20 +1,19 @@
 // Lines that jump a mask: one of bytes 05, and one in digits.
 ghost use Prim.Native.Nat.{_≤_};
-use crate::columns::KEY;
-use crate::columns::SPELT;
-use case_tools::bytes::answered;
-use case_tools::bytes::block_from;
-use case_tools::bytes::front;
-use case_tools::bytes::front_mut;
-use case_tools::bytes::one_if;
-use case_tools::bytes::starts_with;
+use case_text::bytes::front;
+use case_text::bytes::front_mut;
+use case_text::bytes::one_if;
+use case_text::bytes::starts_with;
+use case_text::columns::KEY;
+use case_text::columns::SPELT;
+use case_text::random::noise;
+use case_text::words::byte;
+use case_text::words::number;
+use case_text::words::signed;
+use case_text::words::spelt;
+use case_tools::answer::answered;
+use case_tools::answer::block_from;
 use case_tools::call::jumped;
-use case_tools::random::noise;
-use case_tools::words::byte;
-use case_tools::words::number;
-use case_tools::words::number32;
-use case_tools::words::signed;
-use case_tools::words::spelt;
 
 // Whether a jump gets a refusal, or a mask.
 fn gets(mask: &[u8], distance: i32, out: &mut [u8], refusal: u8, answer: &[u8]) -> usize
@@ -45,29 +44,14 @@ pub fn jump(line: &[u8]) -> usize
     )
 }
 
-// ---- masks in digits
-
-// A mask jumped so many times by one distance.
-fn far(mask: [u8; 16], distance: i32, times: u32) -> [u8; 16] {
-    let mut m = mask;
-    let mut left = times;
-    while left > 0 {
-        let next = jumped(m, distance);
-        m = next;
-        left -= 1;
-    }
-    m
-}
-
-// mask DIGITS DISTANCE TIMES LAST DIGITS: a mask jumped so many times by a distance, and once by the last one
+// mask DIGITS DISTANCE DIGITS: a mask in digits jumped by a distance
 pub fn mask(line: &[u8]) -> usize
     ensures { λ r. ⌜ r ≤ 1 ⌝ }
 {
     let mut from = [0u8; 16];
     spelt(line, 1, &mut from);
     let mut to = [0u8; 16];
-    spelt(line, 5, &mut to);
-    let before = far(block_from(&from, 0), signed(line, 2), number32(line, 3));
-    let given = jumped(before, signed(line, 4));
+    spelt(line, 3, &mut to);
+    let given = jumped(block_from(&from, 0), signed(line, 2));
     one_if(starts_with(&given, &to))
 }

@@ -1,7 +1,7 @@
 // The keys and the IVs of a table, to be cut to any length up to theirs.
+use case_text::hex::bytes_at;
+use case_text::paper;
 use case_tools::aes::decrypt;
-use case_tools::hex::bytes_at;
-use case_tools::paper;
 
 // 00 01 .. 3F, which starts with the paper's key, or zeros.
 pub fn keys(zero: bool) -> [u8; 64] {

@@ -1,18 +1,17 @@
 // A table of cases in a data file. A line is a case: the name of a call, numbers and digits, and what the call gets. Lines that start with
 // `group` part the cases into groups; empty lines and those that start with # say nothing.
 ghost use Prim.Native.Nat.{_≤_};
-use crate::columns::is_call;
 use crate::keys::iv_beside;
 use crate::keys::keys;
 use crate::keys::lengthened;
-use case_tools::bytes::front;
-use case_tools::bytes::starts_with;
-use case_tools::report;
-use case_tools::words::line_end;
-use case_tools::words::number;
+use case_text::bytes::front;
+use case_text::bytes::starts_with;
+use case_text::columns::is_call;
+use case_text::report;
+use case_text::words::line_end;
+use case_text::words::number;
 use mode::finish::Finish;
 
-mod columns; // columns.rt: the columns of a case
 mod keys; // keys.rt: keys and IVs, by their lengths
 mod message; // message.rt: a line that seals a message
 mod sealed; // sealed.rt: records that the library seals
@@ -83,7 +82,7 @@ fn of_no_key(line: &[u8]) -> usize
     if is_call(line, b"jump ", b"kskbd") {
         return jump::jump(line);
     }
-    if is_call(line, b"mask ", b"dsnsd") {
+    if is_call(line, b"mask ", b"dsd") {
         return jump::mask(line);
     }
     0
@@ -168,6 +167,6 @@ pub fn run_text(finish: Finish, zero: bool, text: &[u8]) {
 // The cases of a data file.
 pub fn run_file(finish: Finish, zero: bool, path: &[u8]) {
     let mut buffer = io::large_buffer();
-    let n = case_tools::file::read(path, &mut buffer);
+    let n = case_text::file::read(path, &mut buffer);
     run_text(finish, zero, &buffer[..n]);
 }

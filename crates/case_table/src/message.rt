@@ -1,13 +1,13 @@
 // A line that seals a message.
 ghost use Prim.Native.Nat.{_≤_};
-use crate::columns::ROOM;
-use crate::columns::TEXT;
-use case_tools::bytes::front;
-use case_tools::bytes::front_mut;
-use case_tools::bytes::one_if;
+use case_text::bytes::front;
+use case_text::bytes::front_mut;
+use case_text::bytes::one_if;
+use case_text::columns::ROOM;
+use case_text::columns::TEXT;
+use case_text::words::byte;
+use case_text::words::number;
 use case_tools::call::sealed_into;
-use case_tools::words::byte;
-use case_tools::words::number;
 use mode::finish::Finish;
 
 // seal KEY IV MESSAGE ROOM REFUSAL LENGTH

@@ -1,20 +1,20 @@
 // Lines that open a record: one of noise, one that is given in digits, a sealed message, and blocks that a middle run sealed.
 ghost use Prim.Native.Nat.{_≤_};
-use crate::columns::ROOM;
-use crate::columns::SPELT;
-use crate::columns::TEXT;
 use crate::keys::keys;
 use crate::sealed::of_blocks;
 use crate::sealed::of_message;
-use case_tools::bytes::flip_last;
-use case_tools::bytes::front;
-use case_tools::bytes::front_mut;
-use case_tools::bytes::one_if;
+use case_text::bytes::flip_last;
+use case_text::bytes::front;
+use case_text::bytes::front_mut;
+use case_text::bytes::one_if;
+use case_text::columns::ROOM;
+use case_text::columns::SPELT;
+use case_text::columns::TEXT;
+use case_text::random::noise;
+use case_text::words::byte;
+use case_text::words::number;
+use case_text::words::spelt;
 use case_tools::call::opened_into;
-use case_tools::random::noise;
-use case_tools::words::byte;
-use case_tools::words::number;
-use case_tools::words::spelt;
 use mode::finish::Finish;
 
 // A record opened into `room` bytes: a refusal, or the message where the refusal is 0.

@@ -1,17 +1,17 @@
 // Lines that seal or check a run.
 ghost use Prim.Native.Nat.{_≤_};
-use crate::columns::ROOM;
-use crate::columns::TEXT;
-use case_tools::bytes::front;
-use case_tools::bytes::front_mut;
-use case_tools::bytes::of_run;
-use case_tools::bytes::one_if;
-use case_tools::bytes::written;
+use case_text::bytes::front;
+use case_text::bytes::front_mut;
+use case_text::bytes::one_if;
+use case_text::columns::ROOM;
+use case_text::columns::TEXT;
+use case_text::words::byte;
+use case_text::words::number;
+use case_text::words::number32;
+use case_tools::answer::of_run;
+use case_tools::answer::written;
 use case_tools::call::numbered;
 use case_tools::call::run_into;
-use case_tools::words::byte;
-use case_tools::words::number;
-use case_tools::words::number32;
 
 // middle KEY IV FIRST TEXT ROOM REFUSAL COUNT, last KEY IV FIRST TEXT ROOM REFUSAL COUNT: a refusal, or a ciphertext and a record of COUNT blocks
 fn sealed(key: &[u8], iv: &[u8], last: bool, text: &[u8], out: &mut [u8], line: &[u8]) -> usize

@@ -2,14 +2,14 @@
 // is one that no output has.
 ghost use Prim.Native.Nat.{_+_, _≤_};
 ghost use lib.ListN.{length};
-use case_tools::bytes::NO_ANSWER;
-use case_tools::bytes::of_run;
-use case_tools::bytes::written;
+use case_text::paper;
+use case_text::words::NO_NUMBER;
+use case_tools::answer::NO_ANSWER;
+use case_tools::answer::of_run;
+use case_tools::answer::written;
 use case_tools::call::run_into;
 use case_tools::call::sealed_into;
 use case_tools::call::tag_length;
-use case_tools::paper;
-use case_tools::words::NO_NUMBER;
 use mode::TagAnswer;
 use mode::finish::Finish;
 

@@ -1,9 +1,9 @@
 // One call into an output that held noise, and what it gave.
 ghost use Prim.Native.Nat.{_≤_};
-use crate::bytes::answered;
-use crate::bytes::blank;
-use crate::bytes::written;
-use crate::random::noise;
+use crate::answer::answered;
+use crate::answer::blank;
+use crate::answer::written;
+use case_text::random::noise;
 use mode::RunAnswer;
 use mode::RunRecord;
 use mode::finish::Finish;

@@ -1,12 +1,12 @@
 // Runs and tags held to values that are known.
 ghost use Prim.Native.Nat.{_≤_};
-use crate::bytes::answered;
-use crate::bytes::gives_record;
-use crate::bytes::gives_tag;
-use crate::bytes::of_run;
-use crate::bytes::one_if;
-use crate::bytes::same_record;
+use crate::answer::answered;
+use crate::answer::gives_record;
+use crate::answer::gives_tag;
+use crate::answer::of_run;
+use crate::answer::same_record;
 use crate::call::run_into;
+use case_text::bytes::one_if;
 use mode::RunRecord;
 use mode::finish::Finish;
 

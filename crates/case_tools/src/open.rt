@@ -1,7 +1,7 @@
 // A record opened, and its answer compared.
 ghost use Prim.Native.Nat.{_≤_};
-use crate::bytes::one_if;
 use crate::call::opened_into;
+use case_text::bytes::one_if;
 use mode::finish::Finish;
 
 // The answer in an output that held noise: a message, or a refusal where the message is none.

@@ -1,16 +1,16 @@
 // Records that a second program sealed (docs/CASES.md), a line each: key, IV, message and record in hexadecimal digits, a space after each but the
 // last. Where the message is empty no digits stand for it. The IV is taken from the record, which starts with it.
 ghost use Prim.Native.Nat.{_≤_};
-use crate::bytes::answered;
-use crate::bytes::front;
-use crate::bytes::front_mut;
-use crate::bytes::one_if;
+use crate::answer::answered;
 use crate::call::opened_into;
 use crate::call::tag_length;
-use crate::random::noise;
-use crate::words::line_end;
-use crate::words::spelt;
-use crate::words::word;
+use case_text::bytes::front;
+use case_text::bytes::front_mut;
+use case_text::bytes::one_if;
+use case_text::random::noise;
+use case_text::words::line_end;
+use case_text::words::spelt;
+use case_text::words::word;
 use mode::finish::Finish;
 
 // The most bytes of a record.
@@ -152,6 +152,6 @@ pub fn run(finish: Finish, text: &[u8]) -> Agreed {
 // The lines of a data file.
 pub fn run_file(finish: Finish, path: &[u8]) -> Agreed {
     let mut buffer = io::large_buffer();
-    let n = crate::file::read(path, &mut buffer);
+    let n = case_text::file::read(path, &mut buffer);
     run(finish, &buffer[..n])
 }

@@ -2,12 +2,12 @@
 ghost use mathlib.Core.Path.{_≡_};
 ghost use Prim.Native.Nat.{_≤_};
 ghost use lib.ListN.{length};
-use case_tools::bytes::NO_ANSWER;
-use case_tools::bytes::flip;
-use case_tools::bytes::one_if;
-use case_tools::hex::bytes_at;
+use case_text::bytes::flip;
+use case_text::bytes::one_if;
+use case_text::hex::bytes_at;
+use case_text::paper;
+use case_tools::answer::NO_ANSWER;
 use case_tools::open::answers;
-use case_tools::paper;
 use case_tools::reference;
 use mode::RecordAnswer;
 use mode::finish::Finish;

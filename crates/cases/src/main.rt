@@ -1,14 +1,10 @@
-// The paper's vectors, reference records, cuts and damage, run against the proved library. Each line says how many cases of a group
-// agreed.
+// The paper's vectors, reference records and damage, run against the proved library. Each line says how many cases of a group agreed.
 use case_table::run_file as run_table;
+use case_text::report;
 use case_tools::reference::run_file as run_records;
-use case_tools::report;
 use mode::finish::Finish;
 
 mod paper; // paper.rt: the vectors of the mode's paper
-mod sums; // sums.rt: what the paper prints between the others
-mod cut; // cut.rt: blocks cut into runs
-mod cuts; // cuts.rt: seeded messages, whole and in runs
 mod damage; // damage.rt: a record with each bit flipped
 
 // ---- the paper, and reference records
@@ -17,13 +13,12 @@ fn report_vectors() {
     report(b"paper, first vector", paper::first_vector(), 5);
     report(b"paper, second vector", paper::second_vector(), 4);
     report(b"paper, both blocks in one run", paper::both_blocks(), 5);
-    report(b"paper's rule, 4000 blocks", paper::long_chain(), 7);
 }
 
 fn report_between() {
     run_table(Finish::Cipher, false, b"masks.txt");
-    report(b"paper, sums and encryptions", sums::printed(), 7);
     report(b"start mask of zero", paper::zero_start_mask(), 5);
+    report(b"the last block", paper::last_block(), 6);
 }
 
 fn report_long_key() {
@@ -43,15 +38,7 @@ fn report_reference(path: &[u8]) {
     report(b"reference records, tested", agreed.tested, 128);
 }
 
-// ---- cuts, damage
-
-fn report_cuts() {
-    let agreed = cuts::run();
-    report(b"cuts, sealed in runs", agreed.sealed, 400);
-    report(b"cuts, checked in runs", agreed.checked, 400);
-    report(b"cuts, opened", agreed.opened, 400);
-    report(b"cuts, reference sums", cuts::sums(agreed), 2);
-}
+// ---- damage
 
 fn report_damage() {
     report(b"damage, the record itself", damage::undamaged(), 4);
@@ -68,7 +55,6 @@ fn main() {
     report_reference(b"sealed.txt");
     io::write_all(1, b"keys of 32 bytes\n");
     report_reference(b"sealed256.txt");
-    io::write_all(1, b"cuts and damage\n");
-    report_cuts();
+    io::write_all(1, b"damage\n");
     report_damage();
 }

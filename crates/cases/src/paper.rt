@@ -1,59 +1,35 @@
-// The vectors of the mode's paper, and its second rule over 4,000 blocks. Each function answers how many values agree.
-ghost use mathlib.Core.Path.{_≡_};
+// The vectors of the mode's paper, and values like them. Each function answers how many values agree.
 ghost use Prim.Native.Nat.{_≤_};
-ghost use lib.ListN.{length};
-use case_tools::bytes::answered;
-use case_tools::bytes::gives_record;
-use case_tools::bytes::gives_tag;
-use case_tools::bytes::of_run;
-use case_tools::bytes::one_if;
-use case_tools::bytes::part;
-use case_tools::bytes::record;
-use case_tools::bytes::same_record;
-use case_tools::bytes::starts_with;
-use case_tools::bytes::written;
-use case_tools::call::run_into;
-use case_tools::hex::block;
-use case_tools::hex::bytes_at;
-use case_tools::paper::iv;
-use case_tools::paper::key;
-use case_tools::paper::long_key;
-use case_tools::random::noise;
+use case_text::bytes::one_if;
+use case_text::bytes::part;
+use case_text::hex::block;
+use case_text::hex::bytes_at;
+use case_text::paper::iv;
+use case_text::paper::key;
+use case_text::paper::long_key;
+use case_tools::answer::gives_record;
+use case_tools::answer::record;
+use case_tools::held;
+use case_tools::held::checks;
+use case_tools::held::seals;
 use mode::RunRecord;
 use mode::finish::Finish;
 
 // ---- values as printed
 
-// A middle run gives the ciphertext and the record.
-fn seals(key: &[u8], iv: [u8; 16], text: &[u8], cipher: &[u8], run: RunRecord) -> usize
-    ensures { λ r. ⌜ r ≤ 2 ⌝ }
-{
-    let mut out = [0u8; 65536];
-    let a = run_into(key, &iv, run.first, false, text, &mut out);
-    one_if(answered(of_run(a), 0, cipher, &out))
-        + one_if((a.refusal == 0) & same_record(a.run, run))
-}
-
-// Checking the ciphertext gives the record.
-fn checks(key: &[u8], iv: [u8; 16], cipher: &[u8], run: RunRecord) -> usize
-    ensures { λ r. ⌜ r ≤ 1 ⌝ }
-{
-    one_if(gives_record(calls::run::check_run(key, &iv, run.first, cipher), run))
-}
-
+// A middle run gives the ciphertext and the record, and checking the ciphertext gives the record.
 fn run_gives(key: &[u8], iv: [u8; 16], text: &[u8], cipher: &[u8], run: RunRecord) -> usize
     ensures { λ r. ⌜ r ≤ 3 ⌝ }
 {
-    seals(key, iv, text, cipher, run) + checks(key, iv, cipher, run)
+    let mut out = [0u8; 64];
+    seals(key, &iv, text, cipher, run, &mut out) + checks(key, &iv, cipher, run)
 }
 
 // Closing gives the tag, and testing the tag passes.
 fn tag_is(key: &[u8], iv: [u8; 16], run: RunRecord, tag: [u8; 16]) -> usize
     ensures { λ r. ⌜ r ≤ 2 ⌝ }
 {
-    let closed = tags::record::close(Finish::Cipher, key, &iv, run);
-    let tested = tags::record::test(Finish::Cipher, key, &iv, run, &tag);
-    one_if(gives_tag(closed, &tag)) + one_if(tested == 0)
+    held::tag_is(Finish::Cipher, key, &iv, run, &tag)
 }
 
 // The paper's first block, m1, alone: its ciphertext, its record and the tag.
@@ -133,95 +109,14 @@ pub fn long_key_zero_start_mask() -> usize {
     one_block(&long_key(), iv, c1, a1, tag)
 }
 
-// ---- the second vector's rule over 4,000 blocks
+// ---- the last block that a list may have: the values are those of vectors/make-mode-vectors
 
-// The last ciphertext block, which is the next block of the message, and the record of all blocks so far.
-pub struct Link {
-    pub block: [u8; 16],
-    pub run: RunRecord,
-}
-
-// One block sealed and joined to those before it. Where an answer is not as it should be, block and record are zero.
-fn next_link(before: Link, number: u32) -> Link {
-    let key = key();
-    let iv = iv();
-    let text = before.block;
-    let left = before.run;
-    let mut out = [0u8; 32];
-    let sealed = run_into(&key, &iv, number, false, &text, &mut out);
-    let right = sealed.run;
-    let joined = left.join(right);
-    if !written(of_run(sealed), 0, 16, &out) || joined.refusal != 0 {
-        return Link {
-            block: [0u8; 16],
-            run: record(0, 0, [0u8; 16]),
-        };
-    }
-    let run = joined.run;
-    Link {
-        block: blocks::block::load(&out, 0),
-        run,
-    }
-}
-
-// Block m1, with none before it.
-fn no_link() -> Link {
-    Link {
-        block: block(b"00112233445566778899AABBCCDDEEFF"),
-        run: record(0, 0, [0u8; 16]),
-    }
-}
-
-// Block c1, and the record that holds A1, as the calls give them.
-pub fn first_link() -> Link {
-    next_link(no_link(), 0)
-}
-
-// The 4,001 blocks m1, c1, c2, .. in order, and the record of all.
-fn chain(text: &mut [u8]) -> RunRecord
-    requires { ⌜ length (now text) ≡ 64016 ⌝ }
-{
-    let mut last = no_link();
-    let m1 = last.block;
-    blocks::block::store(text, 0, m1);
-    let mut n: u32 = 0;
-    while n < 4000 {
-        let next = next_link(last, n);
-        last = next;
-        n += 1;
-        let block = last.block;
-        blocks::block::store(text, n as usize * 16, block);
-    }
-    last.run
-}
-
-// All in one run comes to the same ciphertext and record.
-fn in_one_run(text: &[u8], run: RunRecord) -> usize
-    ensures { λ r. ⌜ r ≤ 3 ⌝ }
-{
-    run_gives(
-        &key(),
-        iv(),
-        part(text, 0, 64000),
-        part(text, 16, 64016),
-        run,
-    )
-}
-
-// The last ciphertext block, the pre-authenticator and the tag are those of vectors/make-mode-vectors.
-fn as_reference(text: &[u8], run: RunRecord) -> usize
-    ensures { λ r. ⌜ r ≤ 4 ⌝ }
-{
-    let last = block(b"59DD4F1F25B18419F42BC2093E33E8CF");
-    let preauthenticator = block(b"867A5B013621ADB2B7E6877B52CE701D");
-    let tag = block(b"0F767B73662D903D8D456D947D7BEFF2");
-    one_if(starts_with(part(text, 64000, 64016), &last))
-        + one_if(same_record(run, record(0, 4000, preauthenticator)))
-        + tag_is(&key(), iv(), run, tag)
-}
-
-pub fn long_chain() -> usize {
-    let mut text = [0u8; 64016];
-    let run = chain(&mut text);
-    as_reference(&text, run) + in_one_run(&text, run)
+// Block m1 as a run of its own there, under keys of 16 and of 32 bytes.
+pub fn last_block() -> usize {
+    let m1 = block(b"00112233445566778899AABBCCDDEEFF");
+    let short = record(1048575, 1, block(b"0D598CC5462E167B26892962D0C05039"));
+    let long = record(1048575, 1, block(b"8D924D2C68B12F3D7F5DAF90D37978BC"));
+    let c_short = block(b"E2B5406B933FEE7A98CFEBAC4EEC3075");
+    let c_long = block(b"422DD1F46AA0CF8F7013C1FCF4DD1035");
+    run_gives(&key(), iv(), &m1, &c_short, short) + run_gives(&long_key(), iv(), &m1, &c_long, long)
 }

@@ -1,8 +1,8 @@
 // A record of one block with each of its bits flipped in turn: the line of the file with a key of 16 bytes and a message of 10.
 ghost use Prim.Native.Nat.{_≤_};
-use case_tools::bytes::flip;
-use case_tools::hex::block;
-use case_tools::hex::bytes_at;
+use case_text::bytes::flip;
+use case_text::hex::block;
+use case_text::hex::bytes_at;
 use case_tools::reference::opens;
 use case_tools::reference::tests;
 use mode::finish::Finish;

@@ -1,14 +1,14 @@
 // A record of the mode's paper and one made by hand, and their tags.
 ghost use Prim.Native.Nat.{_≤_};
-use case_tools::bytes::flip;
-use case_tools::bytes::gives_tag;
-use case_tools::bytes::of_run;
-use case_tools::bytes::one_if;
-use case_tools::bytes::record;
-use case_tools::bytes::written;
-use case_tools::hex::block;
-use case_tools::hex::bytes_at;
-use case_tools::random::noise;
+use case_text::bytes::flip;
+use case_text::bytes::one_if;
+use case_text::hex::block;
+use case_text::hex::bytes_at;
+use case_text::random::noise;
+use case_tools::answer::gives_tag;
+use case_tools::answer::of_run;
+use case_tools::answer::record;
+use case_tools::answer::written;
 use mode::RunRecord;
 use mode::finish::Finish;
 
@@ -68,12 +68,12 @@ pub fn by_hand(count: u32) -> RunRecord {
 
 // Of as many blocks as a list may have, under keys of 16 and of 32 bytes.
 pub fn reference_tags(key: &[u8], long_key: &[u8], iv: [u8; 16]) -> usize {
-    let run = by_hand(4000);
-    tag_is(key, iv, run, b"0BA142593CE17B65584E2087299C0D4FA922F7A6")
+    let run = by_hand(1048576);
+    tag_is(key, iv, run, b"ACD74120ECD4228C311761EA3153820F8CD5CA40")
         + tag_is(
             long_key,
             iv,
             run,
-            b"D67953D8652E6291D171130DC59BCE7B6C90AC8B",
+            b"4161CDB1FBFD8F18EDFF4F3DDCB4071EA927AE30",
         )
 }

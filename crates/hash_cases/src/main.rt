@@ -1,7 +1,7 @@
 // The hash finish (ticket P4), run against the proved library. Each line says how many cases of a group agreed.
 use case_table::run_file as run_table;
+use case_text::report;
 use case_tools::reference::run_file as run_records;
-use case_tools::report;
 use mode::finish::Finish;
 
 mod made; // made.rt: a record of the mode's paper and one made by hand
@@ -18,7 +18,7 @@ fn report_reference() {
 
 fn report_made(key: &[u8], iv: [u8; 16]) {
     report(b"paper, first vector", made::first_vector(key, iv), 4);
-    let long_key = case_tools::paper::long_key();
+    let long_key = case_text::paper::long_key();
     report(
         b"reference tags",
         made::reference_tags(key, &long_key, iv),
@@ -42,8 +42,8 @@ fn report_damage() {
 }
 
 fn main() {
-    let key = case_tools::paper::key();
-    let iv = case_tools::paper::iv();
+    let key = case_text::paper::key();
+    let iv = case_text::paper::iv();
     report_made(&key, iv);
     report_reference();
     run_table(Finish::Sha1, false, b"lengths.txt");

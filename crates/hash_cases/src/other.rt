@@ -2,7 +2,7 @@
 // the length.
 ghost use Prim.Native.Nat.{_≤_};
 use crate::made;
-use case_tools::bytes::one_if;
+use case_text::bytes::one_if;
 use case_tools::call::opened_into;
 use case_tools::call::sealed_into;
 use mode::finish::Finish;

@@ -1,10 +1,10 @@
 // Lists of none to three run records, lent to the join of a list: lists that join, and the table's rows for a list. Each line says how
 // many cases of a group agreed.
-use case_tools::bytes::blank;
-use case_tools::bytes::gives_record;
-use case_tools::bytes::one_if;
-use case_tools::bytes::record;
-use case_tools::hex::block;
+use case_text::bytes::one_if;
+use case_text::hex::block;
+use case_tools::answer::blank;
+use case_tools::answer::gives_record;
+use case_tools::answer::record;
 use mode::RecordAnswer;
 use mode::RunRecord;
 ghost use mathlib.Core.Path.{_≡_};
@@ -57,9 +57,9 @@ fn joined() -> usize {
     let two = gives(records, 2, run(0, 3, 6));
     let three = gives(records, 3, run(0, 4, 15));
     let full = gives(
-        [run(0, 4000, 7), run(4000, 0, 0), run(4000, 1, 1)],
+        [run(0, 1048576, 7), run(1048576, 0, 0), run(1048576, 1, 1)],
         2,
-        run(0, 4000, 7),
+        run(0, 1048576, 7),
     );
     agreed(one, two, three, full)
 }
@@ -99,7 +99,11 @@ fn kept() -> usize {
 fn none() -> usize {
     let joins = refuses([run(0, 1, 1), run(1, 2, 2), run(3, 1, 3)], 0, 9);
     let apart = refuses([run(0, 1, 1), run(5, 1, 2), run(9, 1, 3)], 0, 9);
-    let beyond = refuses([run(4000, 1, 1), run(4001, 1, 2), run(4002, 1, 3)], 0, 9);
+    let beyond = refuses(
+        [run(1048576, 1, 1), run(1048577, 1, 2), run(1048578, 1, 3)],
+        0,
+        9,
+    );
     let blank = refuses([run(0, 0, 0), run(0, 0, 0), run(0, 0, 0)], 0, 9);
     agreed(joins, apart, beyond, blank)
 }
@@ -115,17 +119,17 @@ fn apart() -> usize {
 
 // 4: alone; the first of three; the last, behind a gap, which 4 beats; numbers whose sum leaves 32 bits.
 fn beyond() -> usize {
-    let alone = refuses([run(1, 4000, 1), run(0, 1, 2), run(1, 1, 3)], 1, 4);
-    let first = refuses([run(4000, 1, 1), run(0, 1, 2), run(5, 1, 3)], 3, 4);
-    let last = refuses([run(0, 1, 1), run(5, 1, 2), run(4000, 1, 3)], 3, 4);
+    let alone = refuses([run(1, 1048576, 1), run(0, 1, 2), run(1, 1, 3)], 1, 4);
+    let first = refuses([run(1048576, 1, 1), run(0, 1, 2), run(5, 1, 3)], 3, 4);
+    let last = refuses([run(0, 1, 1), run(5, 1, 2), run(1048576, 1, 3)], 3, 4);
     let huge = refuses([run(0, 1, 1), run(4294967295, 1, 2), run(0, 1, 3)], 2, 4);
     agreed(alone, first, last, huge)
 }
 
 fn main() {
-    case_tools::report(b"lent lists that join", joined(), 4);
-    case_tools::report(b"lent lists with a power kept", kept(), 4);
-    case_tools::report(b"refusal 9 of a lent list", none(), 4);
-    case_tools::report(b"refusal 8 of a lent list", apart(), 4);
-    case_tools::report(b"refusal 4 of a lent list", beyond(), 4);
+    case_text::report(b"lent lists that join", joined(), 4);
+    case_text::report(b"lent lists with a power kept", kept(), 4);
+    case_text::report(b"refusal 9 of a lent list", none(), 4);
+    case_text::report(b"refusal 8 of a lent list", apart(), 4);
+    case_text::report(b"refusal 4 of a lent list", beyond(), 4);
 }

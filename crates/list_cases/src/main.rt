@@ -1,11 +1,11 @@
 // Lists of run records, joined one by one as the join of a lent list does it: lists that join, and the table's rows for a list; and masks
 // and pre-authenticators in words. Each line says how many cases of a group agreed.
-use case_tools::bytes::gives_record;
-use case_tools::bytes::one_if;
-use case_tools::bytes::record;
-use case_tools::bytes::refuses;
-use case_tools::hex::block;
-use case_tools::report;
+use case_text::bytes::one_if;
+use case_text::hex::block;
+use case_text::report;
+use case_tools::answer::gives_record;
+use case_tools::answer::record;
+use case_tools::answer::refuses;
 use mode::KeptAnswer;
 use mode::RunRecord;
 ghost use Prim.Native.Nat.{_≤_};
@@ -112,10 +112,10 @@ fn takes(list: KeptAnswer, powers: u64) -> usize
 fn joined() -> usize {
     let a = run(0, 1, 1);
     let b = run(1, 2, 2);
-    let c = run(3, 3997, 3);
+    let c = run(3, 1048573, 3);
     let ab = record(0, 3, block(b"06060606060606060606060606060606"));
-    let bc = record(1, 3999, block(b"FBFCD7738E2DFBBC10DF013422A2A2CC"));
-    let abc = record(0, 4000, block(b"0A037F9294700AC23767055A61E1E1D5"));
+    let bc = record(1, 1048575, block(b"B1058668124379F209EB4EE46C84559B"));
+    let abc = record(0, 1048576, block(b"D5088CBE30C38C101C3BD52AB38AF82C"));
     gives(list1(a), a)
         + gives(list2(a, b), ab)
         + gives(list2(b, c), bc)
@@ -125,8 +125,8 @@ fn joined() -> usize {
 
 // Empty runs: at the limit, alone and behind a full list; before a run and behind it.
 fn empty_runs() -> usize {
-    let at_limit = run(4000, 0, 0);
-    let full = run(0, 4000, 7);
+    let at_limit = run(1048576, 0, 0);
+    let full = run(0, 1048576, 7);
     let short = run(5, 3, 9);
     gives(list1(at_limit), at_limit)
         + gives(list2(full, at_limit), full)
@@ -150,31 +150,34 @@ fn apart() -> usize {
         + gets(of3(0, 1, 2, 1, 0, 1), 8)
 }
 
-// 4: alone; an empty run at 4,001; behind a gap, which 4 beats; numbers whose sum leaves 32 bits.
+// 4: alone; an empty run at 1,048,577; behind a gap, which 4 beats; numbers whose sum leaves 32 bits.
 fn beyond() -> usize {
-    gets(of1(1, 4000), 4)
-        + gets(of1(4001, 0), 4)
-        + gets(of3(0, 1, 5, 1, 4000, 1), 4)
+    gets(of1(1, 1048576), 4)
+        + gets(of1(1048577, 0), 4)
+        + gets(of3(0, 1, 5, 1, 1048576, 1), 4)
         + gets(of2(0, 1, 4294967295, 1), 4)
 }
 
 // 4 stands, whatever follows: a record that adjoins none; one that starts at block 0, as a blank record does; one that adjoins the
 // record before the one beyond the limit; one that is beyond the limit itself.
 fn beyond_before() -> usize {
-    gets(of2(1, 4000, 5, 1), 4)
-        + gets(of2(1, 4000, 0, 1), 4)
-        + gets(of3(0, 1, 4000, 1, 1, 1), 4)
-        + gets(of3(0, 1, 4000, 1, 4001, 0), 4)
+    gets(of2(1, 1048576, 5, 1), 4)
+        + gets(of2(1, 1048576, 0, 1), 4)
+        + gets(of3(0, 1, 1048576, 1, 1, 1), 4)
+        + gets(of3(0, 1, 1048576, 1, 1048577, 0), 4)
 }
 
 // A power that is used again: right records of one count, of one count behind another, of two counts in turn, and behind one of no block.
 // The values are those of vectors/make-mode-vectors.
 fn kept() -> usize {
-    let equal = record(0, 4000, block(b"26D2593BF953FA57D5098F0882820415"));
+    let equal = record(0, 1048576, block(b"C0FF01FD1588153AA0BFCC82332F4D54"));
     let behind = record(0, 10, block(b"9E9E9E9E9E9E9E9E9E9E9E9E9E9E9F92"));
     let in_turn = record(0, 3000, block(b"8D533AD7CA5E040482838F8F9E430842"));
     let empty = record(0, 11, block(b"DCDCDCDCDCDCDCDCDCDCDCDCDCDCDCDC"));
-    gives(of4(0, 1000, 1000, 1000, 2000, 1000, 3000, 1000), equal)
+    gives(
+        of4(0, 262144, 262144, 262144, 524288, 262144, 786432, 262144),
+        equal,
+    )
         + gives(of4(0, 1, 1, 3, 4, 3, 7, 3), behind)
         + gives(of4(0, 1000, 1000, 500, 1500, 1000, 2500, 500), in_turn)
         + gives(of4(0, 5, 5, 0, 5, 3, 8, 3), empty)
@@ -206,8 +209,8 @@ fn powers_refused() -> usize {
     takes(of2(0, 1, 2, 1), 0)
         + takes(of3(0, 1, 1, 1, 3, 2), 1)
         + takes(of4(0, 1, 2, 1, 3, 2, 5, 1), 0)
-        + takes(of4(0, 1, 1, 1, 4000, 1, 2, 2), 1)
-        + takes(of3(4000, 1, 0, 1, 1, 1), 0)
+        + takes(of4(0, 1, 1, 1, 1048576, 1, 2, 2), 1)
+        + takes(of3(1048576, 1, 0, 1, 1, 1), 0)
 }
 
 fn main() {

@@ -3,9 +3,9 @@
 ghost use mathlib.Core.Path.{_≡_};
 ghost use Prim.Native.Nat.{_≤_};
 ghost use lib.ListN.{length};
-use case_tools::bytes::of_run;
-use case_tools::bytes::record;
-use case_tools::bytes::written;
+use case_tools::answer::of_run;
+use case_tools::answer::record;
+use case_tools::answer::written;
 use case_tools::call::run_into;
 use mode::RunRecord;
 
@@ -45,7 +45,14 @@ pub fn next_link(key: &[u8], iv: &[u8], before: Link, number: u32) -> Link {
 pub const TEXT: usize = 32784;
 
 // A block, which has this number, and the ciphertext of `count` blocks from it on, in order. The answer is their record.
-pub fn fill(key: &[u8], iv: &[u8], block: [u8; 16], number: u32, count: u32, text: &mut [u8]) -> RunRecord
+pub fn fill(
+    key: &[u8],
+    iv: &[u8],
+    block: [u8; 16],
+    number: u32,
+    count: u32,
+    text: &mut [u8],
+) -> RunRecord
     requires { ⌜ number ≤ 1000000 ⌝ }
     requires { ⌜ count ≤ 2048 ⌝ }
     requires { ⌜ length (now text) ≡ 32784 ⌝ }

@@ -3,7 +3,7 @@
 ghost use Prim.Native.Nat.{_+_, _≤_};
 ghost use lib.ListN.{length};
 use crate::digest::agrees;
-use case_tools::hex::bytes_at;
+use case_text::hex::bytes_at;
 
 fn number(high: u8, low: u8) -> usize
     ensures { λ n. ⌜ n ≤ 65535 ⌝ }

@@ -1,6 +1,6 @@
 // A start mask that is still zero after its replacement (ticket P3), run against the proved library. Each line says how many cases of a
 // group agreed.
-use case_tools::report;
+use case_text::report;
 use mode::finish::Finish;
 
 mod pair; // pair.rt: keys that start with 16 zeros, and the IVs that the cipher run backwards gives

@@ -1,13 +1,13 @@
 // Pairs next to those that are refused: they are sealed, and opened again. The records are those that vectors/make-mode-vectors prints.
 ghost use Prim.Native.Nat.{_≤_};
 use crate::pair;
-use case_tools::bytes::answered;
-use case_tools::bytes::flip;
-use case_tools::bytes::one_if;
-use case_tools::bytes::written;
-use case_tools::hex::bytes_at;
+use case_text::bytes::flip;
+use case_text::bytes::one_if;
+use case_text::hex::bytes_at;
+use case_text::random::noise;
+use case_tools::answer::answered;
+use case_tools::answer::written;
 use case_tools::open::answers;
-use case_tools::random::noise;
 use mode::finish::Finish;
 
 // The record of a message, in digits: sealed and opened again.

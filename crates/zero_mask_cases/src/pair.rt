@@ -1,12 +1,12 @@
 // Keys that start with 16 zeros, and for each the one IV under which its start mask is zero.
 ghost use Prim.Native.Nat.{_≤_};
-use case_tools::bytes::one_if;
-use case_tools::hex::block;
+use case_text::bytes::one_if;
+use case_text::hex::block;
 
 // A key of 32 bytes: 16 zeros, and 00 to 0F.
 pub fn half_zero() -> [u8; 32] {
     let mut r = [0u8; 32];
-    blocks::block::store(&mut r, 16, case_tools::paper::key());
+    blocks::block::store(&mut r, 16, case_text::paper::key());
     r
 }
 
