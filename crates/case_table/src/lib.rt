@@ -17,8 +17,6 @@ mod message; // message.rt: a line that seals a message
 mod sealed; // sealed.rt: records that the library seals
 mod open; // open.rt: lines that open a record
 mod run; // run.rt: lines that seal or check a run
-mod record; // record.rt: lines that join, close or test records
-mod jump; // jump.rt: lines that jump a mask
 
 // ---- one case
 
@@ -58,36 +56,6 @@ fn of_text(finish: Finish, key: &[u8], iv: &[u8], line: &[u8]) -> usize
     0
 }
 
-fn of_record(finish: Finish, key: &[u8], iv: &[u8], line: &[u8]) -> usize
-    ensures { λ r. ⌜ r ≤ 1 ⌝ }
-{
-    if is_call(line, b"close ", b"kinnbd") {
-        return record::close(finish, key, iv, line);
-    }
-    if is_call(line, b"test ", b"kinnkbbd") {
-        return record::test(finish, key, iv, line);
-    }
-    0
-}
-
-fn of_no_key(line: &[u8]) -> usize
-    ensures { λ r. ⌜ r ≤ 1 ⌝ }
-{
-    if is_call(line, b"join ", b"nnnnbnd") {
-        return record::join(line);
-    }
-    if is_call(line, b"empty ", b"nnn") {
-        return record::beside_empty(line);
-    }
-    if is_call(line, b"jump ", b"kskbd") {
-        return jump::jump(line);
-    }
-    if is_call(line, b"mask ", b"dsd") {
-        return jump::mask(line);
-    }
-    0
-}
-
 // The key's length stands in the first column of most lines, the IV's in the next.
 fn with_key(finish: Finish, key: &[u8], iv: [u8; 16], line: &[u8]) -> usize
     ensures { λ r. ⌜ r ≤ 1 ⌝ }
@@ -100,14 +68,14 @@ fn with_key(finish: Finish, key: &[u8], iv: [u8; 16], line: &[u8]) -> usize
     if of_text(finish, key, lent, line) == 1 {
         return 1;
     }
-    of_record(finish, key, lent, line)
+    case_records::of_record(finish, key, lent, line)
 }
 
 // One where the call gets what the line says. A line that is no case gets none.
 fn case(finish: Finish, zero: bool, line: &[u8]) -> usize
     ensures { λ r. ⌜ r ≤ 1 ⌝ }
 {
-    if of_no_key(line) == 1 {
+    if case_records::of_no_key(line) == 1 {
         return 1;
     }
     let keys = keys(zero);

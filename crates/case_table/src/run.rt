@@ -1,5 +1,7 @@
 // Lines that seal or check a run.
 ghost use Prim.Native.Nat.{_≤_};
+use case_records::answer::of_run;
+use case_records::answer::written;
 use case_text::bytes::front;
 use case_text::bytes::front_mut;
 use case_text::bytes::one_if;
@@ -8,8 +10,6 @@ use case_text::columns::TEXT;
 use case_text::words::byte;
 use case_text::words::number;
 use case_text::words::number32;
-use case_tools::answer::of_run;
-use case_tools::answer::written;
 use case_tools::call::numbered;
 use case_tools::call::run_into;
 

@@ -2,11 +2,11 @@
 // is one that no output has.
 ghost use Prim.Native.Nat.{_+_, _≤_};
 ghost use lib.ListN.{length};
+use case_records::answer::NO_ANSWER;
+use case_records::answer::of_run;
+use case_records::answer::written;
 use case_text::paper;
 use case_text::words::NO_NUMBER;
-use case_tools::answer::NO_ANSWER;
-use case_tools::answer::of_run;
-use case_tools::answer::written;
 use case_tools::call::run_into;
 use case_tools::call::sealed_into;
 use case_tools::call::tag_length;

@@ -1,8 +1,8 @@
 // One call into an output that held noise, and what it gave.
 ghost use Prim.Native.Nat.{_≤_};
-use crate::answer::answered;
-use crate::answer::blank;
-use crate::answer::written;
+use case_records::answer::answered;
+use case_records::answer::blank;
+use case_records::answer::written;
 use case_text::random::noise;
 use mode::RunAnswer;
 use mode::RunRecord;
@@ -66,15 +66,4 @@ pub fn numbered(run: RunRecord, refusal: u8, first: u32, count: u32) -> bool {
         return blank(run);
     }
     run.first == first && run.count == count
-}
-
-// A mask jumped. Where the answer is not as it should be, the mask is zero, and so is each that it jumps to.
-pub fn jumped(mask: [u8; 16], distance: i32) -> [u8; 16] {
-    let mut out = [0u8; 32];
-    noise(&mut out);
-    let w = tags::jump::jump(&mask, distance, &mut out);
-    if written(w, 0, 16, &out) {
-        return blocks::block::load(&out, 0);
-    }
-    [0u8; 16]
 }

@@ -1,11 +1,11 @@
 // Runs and tags held to values that are known.
 ghost use Prim.Native.Nat.{_≤_};
-use crate::answer::answered;
-use crate::answer::gives_record;
-use crate::answer::gives_tag;
-use crate::answer::of_run;
-use crate::answer::same_record;
 use crate::call::run_into;
+use case_records::answer::answered;
+use case_records::answer::gives_record;
+use case_records::answer::gives_tag;
+use case_records::answer::of_run;
+use case_records::answer::same_record;
 use case_text::bytes::one_if;
 use mode::RunRecord;
 use mode::finish::Finish;

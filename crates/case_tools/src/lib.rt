@@ -1,5 +1,4 @@
 // What the case programs share that calls the library.
-pub mod answer; // answer.rt: what a case compares
 pub mod aes; // aes.rt: the cipher, one block at a time
 pub mod call; // call.rt: one call into an output that held noise
 pub mod open; // open.rt: a record opened, and its answer compared

@@ -1,9 +1,9 @@
 // Records that a second program sealed (docs/CASES.md), a line each: key, IV, message and record in hexadecimal digits, a space after each but the
 // last. Where the message is empty no digits stand for it. The IV is taken from the record, which starts with it.
 ghost use Prim.Native.Nat.{_≤_};
-use crate::answer::answered;
 use crate::call::opened_into;
 use crate::call::tag_length;
+use case_records::answer::answered;
 use case_text::bytes::front;
 use case_text::bytes::front_mut;
 use case_text::bytes::one_if;

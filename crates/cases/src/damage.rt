@@ -2,11 +2,11 @@
 ghost use mathlib.Core.Path.{_≡_};
 ghost use Prim.Native.Nat.{_≤_};
 ghost use lib.ListN.{length};
+use case_records::answer::NO_ANSWER;
 use case_text::bytes::flip;
 use case_text::bytes::one_if;
 use case_text::hex::bytes_at;
 use case_text::paper;
-use case_tools::answer::NO_ANSWER;
 use case_tools::open::answers;
 use case_tools::reference;
 use mode::RecordAnswer;

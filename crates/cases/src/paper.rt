@@ -1,5 +1,7 @@
 // The vectors of the mode's paper, and values like them. Each function answers how many values agree.
 ghost use Prim.Native.Nat.{_≤_};
+use case_records::answer::gives_record;
+use case_records::answer::record;
 use case_text::bytes::one_if;
 use case_text::bytes::part;
 use case_text::hex::block;
@@ -7,8 +9,6 @@ use case_text::hex::bytes_at;
 use case_text::paper::iv;
 use case_text::paper::key;
 use case_text::paper::long_key;
-use case_tools::answer::gives_record;
-use case_tools::answer::record;
 use case_tools::held;
 use case_tools::held::checks;
 use case_tools::held::seals;

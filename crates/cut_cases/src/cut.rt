@@ -1,12 +1,12 @@
 // Blocks cut into runs at random places, in a random order, and their records joined two at a time in a random order.
 ghost use Prim.Native.Nat.{_<_, _≤_};
+use case_records::answer::NO_ANSWER;
+use case_records::answer::of_run;
+use case_records::answer::record;
+use case_records::answer::written;
 use case_text::bytes::part;
 use case_text::bytes::part_mut;
 use case_text::random::Random;
-use case_tools::answer::NO_ANSWER;
-use case_tools::answer::of_run;
-use case_tools::answer::record;
-use case_tools::answer::written;
 use case_tools::call::run_into;
 use mode::RecordAnswer;
 use mode::RunRecord;

@@ -1,14 +1,15 @@
 // A record of the mode's paper and one made by hand, and their tags.
 ghost use Prim.Native.Nat.{_≤_};
+use case_records::answer::gives_tag;
+use case_records::answer::of_run;
+use case_records::answer::record;
+use case_records::answer::written;
 use case_text::bytes::flip;
 use case_text::bytes::one_if;
 use case_text::hex::block;
 use case_text::hex::bytes_at;
 use case_text::random::noise;
-use case_tools::answer::gives_tag;
-use case_tools::answer::of_run;
-use case_tools::answer::record;
-use case_tools::answer::written;
+use case_tools::held;
 use mode::RunRecord;
 use mode::finish::Finish;
 
@@ -26,9 +27,7 @@ fn tag_is(key: &[u8], iv: [u8; 16], run: RunRecord, text: &[u8; 40]) -> usize
     let tag = spelt(text);
     let mut changed = tag;
     flip(&mut changed, 19, 1);
-    let closed = tags::record::close(Finish::Sha1, key, &iv, run);
-    one_if(gives_tag(closed, &tag))
-        + one_if(tags::record::test(Finish::Sha1, key, &iv, run, &tag) == 0)
+    held::tag_is(Finish::Sha1, key, &iv, run, &tag)
         + one_if(tags::record::test(Finish::Sha1, key, &iv, run, &changed) == 6)
 }
 

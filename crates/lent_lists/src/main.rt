@@ -1,10 +1,10 @@
 // Lists of none to three run records, lent to the join of a list: lists that join, and the table's rows for a list. Each line says how
 // many cases of a group agreed.
+use case_records::answer::blank;
+use case_records::answer::gives_record;
+use case_records::answer::record;
 use case_text::bytes::one_if;
 use case_text::hex::block;
-use case_tools::answer::blank;
-use case_tools::answer::gives_record;
-use case_tools::answer::record;
 use mode::RecordAnswer;
 use mode::RunRecord;
 ghost use mathlib.Core.Path.{_≡_};

@@ -1,11 +1,11 @@
 // Lists of run records, joined one by one as the join of a lent list does it: lists that join, and the table's rows for a list; and masks
 // and pre-authenticators in words. Each line says how many cases of a group agreed.
+use case_records::answer::gives_record;
+use case_records::answer::record;
+use case_records::answer::refuses;
 use case_text::bytes::one_if;
 use case_text::hex::block;
 use case_text::report;
-use case_tools::answer::gives_record;
-use case_tools::answer::record;
-use case_tools::answer::refuses;
 use mode::KeptAnswer;
 use mode::RunRecord;
 ghost use Prim.Native.Nat.{_≤_};

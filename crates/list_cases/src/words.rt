@@ -1,10 +1,10 @@
 // Two words for sixteen bytes (ticket P12). The masks and pre-authenticators are those that document 01 and the mode's paper print, with
 // the words as numbers.
 use blocks::words::Words;
+use case_records::answer::same_words;
 use case_text::bytes::one_if;
 use case_text::hex::block;
 use case_text::paper;
-use case_tools::answer::same_words;
 use mode::RunRecord;
 ghost use Prim.Native.Nat.{_≤_};
 

@@ -3,9 +3,9 @@
 ghost use mathlib.Core.Path.{_≡_};
 ghost use Prim.Native.Nat.{_≤_};
 ghost use lib.ListN.{length};
-use case_tools::answer::of_run;
-use case_tools::answer::record;
-use case_tools::answer::written;
+use case_records::answer::of_run;
+use case_records::answer::record;
+use case_records::answer::written;
 use case_tools::call::run_into;
 use mode::RunRecord;
 

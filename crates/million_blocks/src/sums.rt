@@ -4,10 +4,10 @@ ghost use Prim.Native.Nat.{_≤_};
 use crate::chain::Link;
 use blocks::block::equal;
 use blocks::block::xor;
+use case_records::jump::jumped;
 use case_text::bytes::one_if;
 use case_text::hex::block;
 use case_text::paper;
-use case_tools::call::jumped;
 
 // Step 1: the IV plus the key, encrypted, plus the key.
 pub fn start_mask() -> [u8; 16] {

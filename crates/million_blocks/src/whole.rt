@@ -2,10 +2,10 @@
 ghost use Prim.Native.Nat.{_+_, _<_, _≤_};
 use crate::chain::TEXT;
 use crate::chain::fill;
+use case_records::answer::block_from;
+use case_records::answer::record;
 use case_text::bytes::front;
 use case_text::bytes::part;
-use case_tools::answer::block_from;
-use case_tools::answer::record;
 use case_tools::held::checks;
 use case_tools::held::seals;
 use mode::RunRecord;

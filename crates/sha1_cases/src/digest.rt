@@ -1,8 +1,8 @@
 // What a case checks.
 ghost use Prim.Native.Nat.{_≤_};
+use case_records::answer::answered;
 use case_text::bytes::one_if;
 use case_text::random::noise;
-use case_tools::answer::answered;
 
 // The answer in an output that held noise: a digest, or a refusal where the digest is none.
 fn answers(text: &[u8], out: &mut [u8], refusal: u8, digest: &[u8]) -> bool {

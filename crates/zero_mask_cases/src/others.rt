@@ -1,12 +1,12 @@
 // Pairs next to those that are refused: they are sealed, and opened again. The records are those that vectors/make-mode-vectors prints.
 ghost use Prim.Native.Nat.{_≤_};
 use crate::pair;
+use case_records::answer::answered;
+use case_records::answer::written;
 use case_text::bytes::flip;
 use case_text::bytes::one_if;
 use case_text::hex::bytes_at;
 use case_text::random::noise;
-use case_tools::answer::answered;
-use case_tools::answer::written;
 use case_tools::open::answers;
 use mode::finish::Finish;
 

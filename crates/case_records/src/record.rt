@@ -1,5 +1,10 @@
 // Lines that join, close or test records made by hand.
 ghost use Prim.Native.Nat.{_≤_};
+use crate::answer::gives_record;
+use crate::answer::gives_tag;
+use crate::answer::record;
+use crate::answer::refuses;
+use crate::answer::refuses_tag;
 use case_text::bytes::flip_last;
 use case_text::bytes::front;
 use case_text::bytes::one_if;
@@ -9,11 +14,6 @@ use case_text::words::byte;
 use case_text::words::number;
 use case_text::words::number32;
 use case_text::words::spelt;
-use case_tools::answer::gives_record;
-use case_tools::answer::gives_tag;
-use case_tools::answer::record;
-use case_tools::answer::refuses;
-use case_tools::answer::refuses_tag;
 use mode::RecordAnswer;
 use mode::RunRecord;
 use mode::TagAnswer;

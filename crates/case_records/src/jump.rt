@@ -1,5 +1,7 @@
 // Lines that jump a mask: one of bytes 05, and one in digits.
 ghost use Prim.Native.Nat.{_≤_};
+use crate::answer::answered;
+use crate::answer::written;
 use case_text::bytes::front;
 use case_text::bytes::front_mut;
 use case_text::bytes::one_if;
@@ -11,9 +13,6 @@ use case_text::words::byte;
 use case_text::words::number;
 use case_text::words::signed;
 use case_text::words::spelt;
-use case_tools::answer::answered;
-use case_tools::answer::block_from;
-use case_tools::call::jumped;
 
 // Whether a jump gets a refusal, or a mask.
 fn gets(mask: &[u8], distance: i32, out: &mut [u8], refusal: u8, answer: &[u8]) -> usize
@@ -44,6 +43,17 @@ pub fn jump(line: &[u8]) -> usize
     )
 }
 
+// A mask jumped. Where the answer is not as it should be, the mask is zero, and so is each that it jumps to.
+pub fn jumped(mask: [u8; 16], distance: i32) -> [u8; 16] {
+    let mut out = [0u8; 32];
+    noise(&mut out);
+    let w = tags::jump::jump(&mask, distance, &mut out);
+    if written(w, 0, 16, &out) {
+        return blocks::block::load(&out, 0);
+    }
+    [0u8; 16]
+}
+
 // mask DIGITS DISTANCE DIGITS: a mask in digits jumped by a distance
 pub fn mask(line: &[u8]) -> usize
     ensures { λ r. ⌜ r ≤ 1 ⌝ }
@@ -52,6 +62,6 @@ pub fn mask(line: &[u8]) -> usize
     spelt(line, 1, &mut from);
     let mut to = [0u8; 16];
     spelt(line, 3, &mut to);
-    let given = jumped(block_from(&from, 0), signed(line, 2));
+    let given = jumped(from, signed(line, 2));
     one_if(starts_with(&given, &to))
 }
