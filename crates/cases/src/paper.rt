@@ -111,12 +111,31 @@ pub fn long_key_zero_start_mask() -> usize {
 
 // ---- the last block that a list may have: the values are those of vectors/make-mode-vectors
 
-// Block m1 as a run of its own there, under keys of 16 and of 32 bytes.
-pub fn last_block() -> usize {
+// Block m1 as a run of its own there.
+fn at_limit(key: &[u8], t: [u8; 16], c: [u8; 16]) -> usize
+    ensures { λ r. ⌜ r ≤ 3 ⌝ }
+{
     let m1 = block(b"00112233445566778899AABBCCDDEEFF");
-    let short = record(1048575, 1, block(b"0D598CC5462E167B26892962D0C05039"));
-    let long = record(1048575, 1, block(b"8D924D2C68B12F3D7F5DAF90D37978BC"));
-    let c_short = block(b"E2B5406B933FEE7A98CFEBAC4EEC3075");
-    let c_long = block(b"422DD1F46AA0CF8F7013C1FCF4DD1035");
-    run_gives(&key(), iv(), &m1, &c_short, short) + run_gives(&long_key(), iv(), &m1, &c_long, long)
+    run_gives(key, iv(), &m1, &c, record(1048575, 1, t))
+}
+
+fn last_short() -> usize
+    ensures { λ r. ⌜ r ≤ 3 ⌝ }
+{
+    let t = block(b"0D598CC5462E167B26892962D0C05039");
+    let c = block(b"E2B5406B933FEE7A98CFEBAC4EEC3075");
+    at_limit(&key(), t, c)
+}
+
+fn last_long() -> usize
+    ensures { λ r. ⌜ r ≤ 3 ⌝ }
+{
+    let t = block(b"8D924D2C68B12F3D7F5DAF90D37978BC");
+    let c = block(b"422DD1F46AA0CF8F7013C1FCF4DD1035");
+    at_limit(&long_key(), t, c)
+}
+
+// Under keys of 16 and of 32 bytes.
+pub fn last_block() -> usize {
+    last_short() + last_long()
 }
