@@ -8,14 +8,11 @@ use mode::RunAnswer;
 use mode::RunRecord;
 use mode::finish::Finish;
 
-// The bytes of a tag.
+// The bytes of a tag, with their bound.
 pub fn tag_length(finish: Finish) -> usize
     ensures { λ r. ⌜ r ≤ 20 ⌝ }
 {
-    match finish {
-        Finish::Cipher => 16,
-        Finish::Sha1 => 20,
-    }
+    mode::finish::tag_length(finish)
 }
 
 // Sealing: whether refusal and length are as they should be.
