@@ -3,7 +3,7 @@
  *
  * WHAT THIS IS
  *
- * A route list is a message of 0 to 63,999 bytes. Sealing it under a key (16 or 32 bytes) and an IV
+ * A route list is a message of 0 to 16,777,215 bytes. Sealing it under a key (16 or 32 bytes) and an IV
  * (16 bytes) enciphers it and adds a tag. Opening gives the message back, or turns the record down
  * where the tag is not the one that its ciphertext should have.
  * The mode is that of document 000: Anderson, Beaver, Draelos, Schroeppel, Torgerson, "Cipher-State
@@ -17,7 +17,8 @@
  *    zero the key replaces it. In these three places a key of 32 bytes lends its first 16; the cipher
  *    takes all 32. The paper does not cover this: the rule is ours.
  *  - The padding is one byte 80 (hexadecimal) and then zero bytes, 1 to 16 bytes together, up to the
- *    next multiple of 16. So a list of n bytes has n / 16 + 1 blocks: 1 to 4,000 of them.
+ *    next multiple of 16. So a list of n bytes has n / 16 + 1 blocks: 1 to 1,048,576 of
+ *    them. Libraries before that limit took 4,000, and give 3 to a longer list.
  *  - The tag is made in one of two ways, the finishes of the paper. The cipher finish gives 16 bytes, by
  *    AES. The hash finish gives 20: SHA-1 of the key, the pre-authenticator and the mask after the last
  *    block, in that order. A key of 32 bytes goes in whole.
@@ -121,12 +122,12 @@
  *  24  a run record is not 24 bytes, or a list of them no multiple of 24
  *   1  the key is neither 16 nor 32 bytes
  *   2  the IV is not 16 bytes
- *   3  the message is above 63,999 bytes; the sealed record below 48, above 64,032 or no multiple of
- *      16; with the hash finish below 52, above 64,036 or not 36 over a multiple of 16; a middle run or
- *      a checked run is no multiple of 16; the tag is not 16 bytes, with the hash finish not 20; the mask
- *      is not 16; the text for SHA-1 is above 64,032
- *   4  first block plus count is above 4,000, for a run or a run record; a jump is longer than 4,000
- *      blocks, either way
+ *   3  the message is above 16,777,215 bytes; the sealed record below 48, above 16,777,248 or no
+ *      multiple of 16; with the hash finish below 52, above 16,777,252 or not 36 over a multiple of 16; a
+ *      middle run or a checked run is no multiple of 16; the tag is not 16 bytes, with the hash finish
+ *      not 20; the mask is not 16; the text for SHA-1 is above 64,032
+ *   4  first block plus count is above 1,048,576, for a run or a run record; a jump is longer than
+ *      1,048,576 blocks, either way
  *   8  two records in turn of which the left one does not end where the right one starts
  *   9  the record to be closed or tested does not start at block 0 or has no block; an empty list
  *  10  the start mask is still zero after its replacement. So the first 16 bytes of the key are zeros,
@@ -159,12 +160,12 @@ extern "C" {
 #define BALZENOH_RUN_RECORD 24
 
 /* The most blocks that a list has, and that a mask jumps, forward or back. */
-#define BALZENOH_LIMIT 4000
+#define BALZENOH_LIMIT 1048576
 
 /* Bytes of the longest message, and of the sealed record that it gives by either finish. */
-#define BALZENOH_LONGEST_MESSAGE 63999
-#define BALZENOH_LONGEST_SEALED 64032
-#define BALZENOH_LONGEST_SEALED_SHA1 64036
+#define BALZENOH_LONGEST_MESSAGE 16777215
+#define BALZENOH_LONGEST_SEALED 16777248
+#define BALZENOH_LONGEST_SEALED_SHA1 16777252
 
 /* Bytes of the longest text that balzenoh_sha1 takes. */
 #define BALZENOH_LONGEST_TEXT 64032
@@ -197,7 +198,7 @@ enum balzenoh_refusal {
 /*
  * Seals a message.
  *
- * Refusals: 1, 2, 3 (message above 63,999 bytes), 10, 5 (out_len below BALZENOH_SEALED_LENGTH of
+ * Refusals: 1, 2, 3 (message above 16,777,215 bytes), 10, 5 (out_len below BALZENOH_SEALED_LENGTH of
  * message_len).
  * On success out has the sealed record: IV, ciphertext, tag; *length is its length.
  */
@@ -212,7 +213,7 @@ uint8_t balzenoh_seal(const uint8_t *key, size_t key_len,
  * The output needs the message's length. Where that is not known, lend the ciphertext's, sealed_len -
  * 32: it always suffices, being 1 to 16 bytes more.
  *
- * Refusals: 1, 3 (sealed_len below 48, above 64,032 or no multiple of 16), 10 (with the IV that the
+ * Refusals: 1, 3 (sealed_len below 48, above 16,777,248 or no multiple of 16), 10 (with the IV that the
  * record starts with), 6, 7, 5 (out_len below the message's length).
  * On success out has the message without its padding; *length is the message's length. An empty
  * message needs no output. So without any, 5 or 0 says that tag and padding are right.
@@ -224,8 +225,8 @@ uint8_t balzenoh_open(const uint8_t *key, size_t key_len,
 /*
  * Seals a message with the hash finish.
  *
- * Refusals: 1, 2, 3 (message above 63,999 bytes), 10, 5 (out_len below BALZENOH_SEALED_LENGTH_SHA1 of
- * message_len).
+ * Refusals: 1, 2, 3 (message above 16,777,215 bytes), 10, 5 (out_len below
+ * BALZENOH_SEALED_LENGTH_SHA1 of message_len).
  * On success out has the sealed record: IV, ciphertext, tag of 20 bytes; *length is its length.
  */
 uint8_t balzenoh_seal_sha1(const uint8_t *key, size_t key_len,
@@ -239,8 +240,8 @@ uint8_t balzenoh_seal_sha1(const uint8_t *key, size_t key_len,
  * The output needs the message's length. Where that is not known, lend the ciphertext's, sealed_len -
  * 36: it always suffices, being 1 to 16 bytes more.
  *
- * Refusals: 1, 3 (sealed_len below 52, above 64,036 or not 36 over a multiple of 16), 10 (with the IV
- * that the record starts with), 6, 7, 5 (out_len below the message's length).
+ * Refusals: 1, 3 (sealed_len below 52, above 16,777,252 or not 36 over a multiple of 16), 10 (with the
+ * IV that the record starts with), 6, 7, 5 (out_len below the message's length).
  * On success out has the message without its padding; *length is the message's length. An empty
  * message needs no output. So without any, 5 or 0 says that tag and padding are right.
  */
@@ -253,7 +254,7 @@ uint8_t balzenoh_open_sha1(const uint8_t *key, size_t key_len,
  * gets the padding and so has at least one block. A middle run may be empty.
  *
  * Refusals: 1, 2, 3 (middle run no multiple of 16 bytes), 4 (first plus the run's blocks above
- * 4,000), 10 (for an empty run too), 5 (out_len below BALZENOH_RUN_LENGTH of bytes_len and last, or
+ * 1,048,576), 10 (for an empty run too), 5 (out_len below BALZENOH_RUN_LENGTH of bytes_len and last, or
  * run_len below 24).
  * On success out has the run's ciphertext, alone; *length is its length; run has the run record.
  */
@@ -269,7 +270,7 @@ uint8_t balzenoh_seal_run(const uint8_t *key, size_t key_len,
  * gave, and no plaintext. The run may be empty. Nothing is compared here: join the records, then
  * balzenoh_test or balzenoh_test_sha1.
  *
- * Refusals: 1, 2, 3 (bytes_len no multiple of 16), 4 (first plus the run's blocks above 4,000),
+ * Refusals: 1, 2, 3 (bytes_len no multiple of 16), 4 (first plus the run's blocks above 1,048,576),
  * 10 (for an empty run too), 5 (run_len below 24).
  * On success run has the run record.
  */
@@ -350,12 +351,13 @@ uint8_t balzenoh_test_sha1(const uint8_t *key, size_t key_len,
                            const uint8_t *tag, size_t tag_len);
 
 /*
- * Jumps a mask by `distance` blocks, -4,000 to 4,000: forward, or back where it is negative. Either way
- * it goes by squaring, not block by block. Forward and back by the same number gives the mask again.
- * Jumped back by its first block, the first mask of a run is the list's start mask; so is the mask
+ * Jumps a mask by `distance` blocks, -1,048,576 to 1,048,576: forward, or back where it is negative.
+ * Either way it goes by squaring, not block by block. Forward and back by the same number gives the mask
+ * again. Jumped back by its first block, the first mask of a run is the list's start mask; so is the mask
  * after the last block, jumped back by the number of blocks.
  *
- * Refusals: 3 (mask_len not 16), 4 (distance below -4,000 or above 4,000), 5 (out_len below 16).
+ * Refusals: 3 (mask_len not 16), 4 (distance below -1,048,576 or above 1,048,576), 5 (out_len below
+ * 16).
  * On success out has the 16 bytes of the mask, then zeros.
  */
 uint8_t balzenoh_jump(const uint8_t *mask, size_t mask_len,

@@ -4,8 +4,8 @@
 //! it and is not proved itself: it hands slices over, turns the numbers of refusals into [`Refusal`], and spreads a list over
 //! threads.
 //!
-//! A list of up to 63,999 bytes is sealed under a key and an IV. Opening gives the list back, or refuses: nothing of a list whose
-//! tag differs is handed out, or written to a lent output. An IV must not be used twice under one key.
+//! A list of up to 16,777,215 bytes is sealed under a key and an IV. Opening gives the list back, or refuses: nothing of a list
+//! whose tag differs is handed out, or written to a lent output. An IV must not be used twice under one key.
 //!
 //! ```
 //! use balzenoh::{open, seal, Iv, Key, Refusal};

@@ -14,8 +14,8 @@ use crate::refusal::Refusal;
 ///
 /// # Errors
 ///
-/// [`KeyLength`](Refusal::KeyLength), [`IvLength`](Refusal::IvLength), [`Length`](Refusal::Length) for a message above 63,999
-/// bytes, [`ZeroMask`](Refusal::ZeroMask), [`OutputTooShort`](Refusal::OutputTooShort).
+/// [`KeyLength`](Refusal::KeyLength), [`IvLength`](Refusal::IvLength), [`Length`](Refusal::Length) for a message above
+/// 16,777,215 bytes, [`ZeroMask`](Refusal::ZeroMask), [`OutputTooShort`](Refusal::OutputTooShort).
 ///
 /// ```
 /// use balzenoh::{raw, Refusal};
@@ -34,8 +34,8 @@ pub fn seal(key: &[u8], iv: &[u8], message: &[u8], out: &mut [u8]) -> Result<usi
 ///
 /// # Errors
 ///
-/// [`KeyLength`](Refusal::KeyLength), [`IvLength`](Refusal::IvLength), [`Length`](Refusal::Length) for a message above 63,999
-/// bytes, [`ZeroMask`](Refusal::ZeroMask), [`OutputTooShort`](Refusal::OutputTooShort).
+/// [`KeyLength`](Refusal::KeyLength), [`IvLength`](Refusal::IvLength), [`Length`](Refusal::Length) for a message above
+/// 16,777,215 bytes, [`ZeroMask`](Refusal::ZeroMask), [`OutputTooShort`](Refusal::OutputTooShort).
 ///
 /// ```
 /// use balzenoh::{raw, Finish, Refusal};
@@ -52,8 +52,8 @@ pub fn seal_with(finish: Finish, key: &[u8], iv: &[u8], message: &[u8], out: &mu
 ///
 /// # Errors
 ///
-/// [`KeyLength`](Refusal::KeyLength), [`Length`](Refusal::Length) for a record below 48 bytes, above 64,032 or no multiple of 16,
-/// [`ZeroMask`](Refusal::ZeroMask) with the record's IV, [`TagDiffers`](Refusal::TagDiffers), [`Padding`](Refusal::Padding),
+/// [`KeyLength`](Refusal::KeyLength), [`Length`](Refusal::Length) for a record below 48 bytes, above 16,777,248 or no multiple of
+/// 16, [`ZeroMask`](Refusal::ZeroMask) with the record's IV, [`TagDiffers`](Refusal::TagDiffers), [`Padding`](Refusal::Padding),
 /// [`OutputTooShort`](Refusal::OutputTooShort).
 ///
 /// ```
@@ -277,8 +277,8 @@ pub fn test_with(finish: Finish, key: &[u8], iv: &[u8], run: &[u8], tag: &[u8]) 
 ///
 /// # Errors
 ///
-/// [`Length`](Refusal::Length) for a mask that is not 16 bytes, [`BeyondLimit`](Refusal::BeyondLimit) for a number below -4,000 or
-/// above 4,000, [`OutputTooShort`](Refusal::OutputTooShort).
+/// [`Length`](Refusal::Length) for a mask that is not 16 bytes, [`BeyondLimit`](Refusal::BeyondLimit) for a number below
+/// -1,048,576 or above 1,048,576, [`OutputTooShort`](Refusal::OutputTooShort).
 ///
 /// ```
 /// use balzenoh::{raw, Refusal};
@@ -288,7 +288,7 @@ pub fn test_with(finish: Finish, key: &[u8], iv: &[u8], run: &[u8], tag: &[u8]) 
 /// let back = out;
 /// assert_eq!(raw::jump(&back, 1_200, &mut out), Ok(()));
 /// assert_eq!(out, [9; 16]);
-/// assert_eq!(raw::jump(&[9; 16], -4_001, &mut out), Err(Refusal::BeyondLimit));
+/// assert_eq!(raw::jump(&[9; 16], -1_048_577, &mut out), Err(Refusal::BeyondLimit));
 /// assert_eq!(out, [0; 16]);
 /// ```
 pub fn jump(mask: &[u8], distance: i32, out: &mut [u8]) -> Result<(), Refusal> {

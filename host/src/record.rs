@@ -85,7 +85,7 @@ impl RunRecord {
     ///
     /// # Errors
     ///
-    /// [`Refusal::BeyondLimit`] where a record reaches beyond the limit of 4,000 blocks, [`Refusal::NotNeighbours`] where the
+    /// [`Refusal::BeyondLimit`] where a record reaches beyond the limit of 1,048,576 blocks, [`Refusal::NotNeighbours`] where the
     /// right one does not start at the block where this one ends.
     ///
     /// ```
@@ -141,7 +141,8 @@ impl fmt::Debug for RunRecord {
 ///
 /// # Errors
 ///
-/// [`Refusal::BeyondLimit`] where a record reaches beyond the limit of 4,000 blocks, [`Refusal::NotNeighbours`] where one does not
+/// [`Refusal::BeyondLimit`] where a record reaches beyond the limit of 1,048,576 blocks, [`Refusal::NotNeighbours`] where one does
+/// not
 /// start at the block where the one before it ends, [`Refusal::NotWhole`] for an empty list.
 ///
 /// ```
@@ -168,7 +169,7 @@ pub fn join_list(records: &[RunRecord]) -> Result<RunRecord, Refusal> {
 ///
 /// # Errors
 ///
-/// [`Refusal::BeyondLimit`] where the record reaches beyond the limit of 4,000 blocks, [`Refusal::NotWhole`] where it does not
+/// [`Refusal::BeyondLimit`] where the record reaches beyond the limit of 1,048,576 blocks, [`Refusal::NotWhole`] where it does not
 /// start at block 0 or has no block, [`Refusal::ZeroMask`] where key and IV are the pair that [`seal`](crate::seal) refuses.
 ///
 /// ```

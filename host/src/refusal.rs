@@ -20,7 +20,7 @@ pub enum Refusal {
     IvLength,
     /// 3: the message, sealed record, run, tag, mask or text has a length that no such thing has.
     Length,
-    /// 4: the blocks reach beyond the limit of 4,000, or a jump does, forward or back.
+    /// 4: the blocks reach beyond the limit of 1,048,576, or a jump does, forward or back.
     BeyondLimit,
     /// 5: the lent output is shorter than the answer. In opening that is the message, and the tag and the padding are right.
     OutputTooShort,
@@ -69,16 +69,17 @@ const TABLE: [(u8, Refusal, &str); 11] = [
     (
         3,
         Refusal::Length,
-        "Something has a length that it cannot have. A list to seal has at most 63,999 bytes. A sealed list has 48 to 64,032 \
-         bytes, and 16 divides its size, as it does that of every part of a list but the last one before sealing. A tag or mask \
-         has 16 bytes. With the hash finish a sealed list and a tag have 4 bytes more. A text for SHA-1 has at most 64,032 bytes. \
-         Look whether the file is the right one and was copied whole, and whether both machines have the same finish.",
+        "Something has a length that it cannot have. A list to seal has at most 16,777,215 bytes. A sealed list has 48 to \
+         16,777,248 bytes, and 16 divides its size, as it does that of every part of a list but the last one before sealing. A \
+         tag or mask has 16 bytes. With the hash finish a sealed list and a tag have 4 bytes more. A text for SHA-1 has at most \
+         64,032 bytes. Look whether the file is the right one and was copied whole, and whether both machines have the same \
+         finish.",
     ),
     (
         4,
         Refusal::BeyondLimit,
-        "The blocks go beyond the limit of 4,000 that a list may have. Look at the number of the first block, and at the size of \
-         this part of the list; where a mask is to jump, at the distance, which is at most 4,000 forward or back.",
+        "The blocks go beyond the limit of 1,048,576 that a list may have. Look at the number of the first block, and at the size \
+         of this part of the list; where a mask is to jump, at the distance, which is at most 1,048,576 forward or back.",
     ),
     (
         5,

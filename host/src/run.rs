@@ -31,8 +31,8 @@ pub enum Kind {
 /// # Errors
 ///
 /// [`Refusal::Length`] for a middle run that is no multiple of 16 bytes, [`Refusal::BeyondLimit`] for one that ends beyond the
-/// limit of 4,000 blocks, [`Refusal::ZeroMask`] where key and IV are the pair that [`seal`](crate::seal) refuses, for an empty run
-/// too.
+/// limit of 1,048,576 blocks, [`Refusal::ZeroMask`] where key and IV are the pair that [`seal`](crate::seal) refuses, for an empty
+/// run too.
 ///
 /// ```
 /// use balzenoh::{close, seal, seal_run, Iv, Key, Kind, Refusal};
@@ -88,7 +88,7 @@ pub fn seal_run_into(
 /// # Errors
 ///
 /// [`Refusal::Length`] for a run that is no multiple of 16 bytes, [`Refusal::BeyondLimit`] for one that ends beyond the limit of
-/// 4,000 blocks, [`Refusal::ZeroMask`] where key and IV are the pair that [`seal`](crate::seal) refuses, for an empty run too.
+/// 1,048,576 blocks, [`Refusal::ZeroMask`] where key and IV are the pair that [`seal`](crate::seal) refuses, for an empty run too.
 ///
 /// ```
 /// use balzenoh::{check_run, seal_run, Iv, Key, Kind, Refusal};

@@ -9,7 +9,7 @@ pub const KEYS: [usize; 2] = [16, 32];
 /// A run record.
 pub const RECORD: usize = 24;
 /// The most blocks that a list has, and that a mask jumps, forward or back.
-pub const LIMIT: usize = 4_000;
+pub const LIMIT: usize = 1_048_576;
 /// The longest message; its padding fills the last block.
 pub const LONGEST_MESSAGE: usize = LIMIT * BLOCK - 1;
 /// What a sealed record has beside its ciphertext: IV and tag, the tag being that of the cipher finish.
@@ -47,7 +47,7 @@ pub const fn padded_blocks(length: usize) -> usize {
 /// ```
 /// use balzenoh::sizes::sealed_room;
 ///
-/// assert_eq!([0, 16, 63_999, 64_000].map(sealed_room), [48, 64, 64_032, 0]);
+/// assert_eq!([0, 16, 16_777_215, 16_777_216].map(sealed_room), [48, 64, 16_777_248, 0]);
 /// ```
 pub const fn sealed_room(message: usize) -> usize {
     sealed_room_with(Finish::Cipher, message)
@@ -59,7 +59,8 @@ pub const fn sealed_room(message: usize) -> usize {
 /// use balzenoh::sizes::sealed_room_with;
 /// use balzenoh::Finish;
 ///
-/// assert_eq!([0, 16, 63_999, 64_000].map(|message| sealed_room_with(Finish::Sha1, message)), [52, 68, 64_036, 0]);
+/// let room = |message| sealed_room_with(Finish::Sha1, message);
+/// assert_eq!([0, 16, 16_777_215, 16_777_216].map(room), [52, 68, 16_777_252, 0]);
 /// ```
 pub const fn sealed_room_with(finish: Finish, message: usize) -> usize {
     if message > LONGEST_MESSAGE {
@@ -74,7 +75,7 @@ pub const fn sealed_room_with(finish: Finish, message: usize) -> usize {
 /// ```
 /// use balzenoh::sizes::open_room;
 ///
-/// assert_eq!([0, 48, 64_032, 64_048].map(open_room), [0, 16, 64_000, 0]);
+/// assert_eq!([0, 48, 16_777_248, 16_777_264].map(open_room), [0, 16, 16_777_216, 0]);
 /// ```
 pub const fn open_room(sealed: usize) -> usize {
     open_room_with(Finish::Cipher, sealed)
@@ -86,7 +87,8 @@ pub const fn open_room(sealed: usize) -> usize {
 /// use balzenoh::sizes::open_room_with;
 /// use balzenoh::Finish;
 ///
-/// assert_eq!([0, 52, 64_036, 64_052].map(|sealed| open_room_with(Finish::Sha1, sealed)), [0, 16, 64_000, 0]);
+/// let room = |sealed| open_room_with(Finish::Sha1, sealed);
+/// assert_eq!([0, 52, 16_777_252, 16_777_268].map(room), [0, 16, 16_777_216, 0]);
 /// ```
 pub const fn open_room_with(finish: Finish, sealed: usize) -> usize {
     if sealed > LIMIT * BLOCK + around(finish) {
@@ -100,7 +102,7 @@ pub const fn open_room_with(finish: Finish, sealed: usize) -> usize {
 /// ```
 /// use balzenoh::sizes::run_room;
 ///
-/// assert_eq!([run_room(32, false), run_room(32, true), run_room(64_000, true)], [32, 48, 0]);
+/// assert_eq!([run_room(32, false), run_room(32, true), run_room(16_777_216, true)], [32, 48, 0]);
 /// ```
 pub const fn run_room(length: usize, last: bool) -> usize {
     let blocks = if last { padded_blocks(length) } else { length / BLOCK };

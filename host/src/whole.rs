@@ -7,7 +7,7 @@ use crate::refusal::Refusal;
 use crate::sizes::{open_room_with, sealed_room_with};
 use crate::values::Iv;
 
-/// Seals a message of up to 63,999 bytes. The sealed record is the IV, the ciphertext and the tag.
+/// Seals a message of up to 16,777,215 bytes. The sealed record is the IV, the ciphertext and the tag.
 ///
 /// # Errors
 ///
@@ -19,7 +19,7 @@ use crate::values::Iv;
 ///
 /// let (key, iv) = (Key::from([7; 16]), Iv::from([1; 16]));
 /// assert_eq!(seal(&key, &iv, b"parcel 4711 -> cage 12")?.len(), 16 + 32 + 16);
-/// assert_eq!(seal(&key, &iv, &[0; 64_000]), Err(Refusal::Length));
+/// assert_eq!(seal(&key, &iv, &vec![0; 16_777_216]), Err(Refusal::Length));
 /// let (no_key, its_iv) = (Key::from([0; 16]), "140F0F1011B5223D79587717FFD9EC3A".parse()?);
 /// assert_eq!(seal(&no_key, &its_iv, b"parcel 4711 -> cage 12"), Err(Refusal::ZeroMask));
 /// let (no_key, its_iv) = (Key::from([0; 32]), "67671CE1FA91DDEB0F8FBBB366B531B4".parse()?);
@@ -30,7 +30,7 @@ pub fn seal(key: &Key, iv: &Iv, message: &[u8]) -> Result<Vec<u8>, Refusal> {
     seal_with(Finish::Cipher, key, iv, message)
 }
 
-/// Seals a message of up to 63,999 bytes with this finish. The sealed record is the IV, the ciphertext and the tag.
+/// Seals a message of up to 16,777,215 bytes with this finish. The sealed record is the IV, the ciphertext and the tag.
 ///
 /// # Errors
 ///
@@ -98,8 +98,8 @@ pub fn seal_into_with(finish: Finish, key: &Key, iv: &Iv, message: &[u8], out: &
 ///
 /// # Errors
 ///
-/// [`Refusal::Length`] for a record that is below 48 bytes, above 64,032 or no multiple of 16, [`Refusal::ZeroMask`] where key and
-/// IV are the pair that [`seal`] refuses, [`Refusal::TagDiffers`] where it is not as it was sealed or the key is another one,
+/// [`Refusal::Length`] for a record that is below 48 bytes, above 16,777,248 or no multiple of 16, [`Refusal::ZeroMask`] where key
+/// and IV are the pair that [`seal`] refuses, [`Refusal::TagDiffers`] where it is not as it was sealed or the key is another one,
 /// [`Refusal::Padding`] where the message does not end as messages do.
 ///
 /// ```
@@ -120,8 +120,8 @@ pub fn open(key: &Key, sealed: &[u8]) -> Result<Vec<u8>, Refusal> {
 ///
 /// # Errors
 ///
-/// Those of [`open`]; [`Refusal::Length`] with [`Finish::Sha1`] for a record that is below 52 bytes, above 64,036 or not 36 over
-/// a multiple of 16.
+/// Those of [`open`]; [`Refusal::Length`] with [`Finish::Sha1`] for a record that is below 52 bytes, above 16,777,252 or not 36
+/// over a multiple of 16.
 ///
 /// ```
 /// use balzenoh::{open_with, seal_with, Finish, Iv, Key, Refusal};

@@ -30,7 +30,7 @@ pub const STATUSES: [(u8, &str); 16] = [
     (1, "the key is neither 16 nor 32 bytes"),
     (2, "the IV is not 16 bytes"),
     (3, "a list, run, tag, mask or text has a length that it cannot have"),
-    (4, "beyond the limit of 4,000 blocks"),
+    (4, "beyond the limit of 1,048,576 blocks"),
     (5, "too little room for the answer (not from this program, which lends enough)"),
     (6, "the list is not the one that was sealed, or the key is another one"),
     (7, "the list does not end as lists do"),

@@ -168,8 +168,8 @@ pub static COMMANDS: [Command; 14] = [
     Command {
         name: "seal",
         summary: "seal a list",
-        text: "Seals a list of up to 63,999 bytes. The answer is the IV, the ciphertext and the tag. An IV must not be used \
-               twice under one key.",
+        text: "Seals a list of up to 16,777,215 bytes. The answer is the IV, the ciphertext and the tag. An IV must not be \
+               used twice under one key.",
         options: &[
             key(),
             iv(SIXTEEN),
@@ -293,8 +293,8 @@ pub static COMMANDS: [Command; 14] = [
     Command {
         name: "jump",
         summary: "jump a mask forward or back",
-        text: "Jumps a mask by -4,000 to 4,000 blocks, back where the number is negative, and prints it. The first mask of a \
-               run, jumped back by the run's first block, is the start mask of the list.",
+        text: "Jumps a mask by -1,048,576 to 1,048,576 blocks, back where the number is negative, and prints it. The first \
+               mask of a run, jumped back by the run's first block, is the start mask of the list.",
         options: &[
             needed(MASK, Value::Digits("MASK"), SIXTEEN),
             needed(DISTANCE, Value::Number("N", i64::MIN, i64::MAX), "the number of blocks, negative to jump back"),

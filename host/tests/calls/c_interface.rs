@@ -107,7 +107,7 @@ extern "C" {
 #[test]
 fn a_distance_is_the_lower_half_of_its_register() {
     let mut random = Random::new(33);
-    for distance in [i32::MIN, -4_001, -4_000, -128, -1, 0, 1, 128, 4_000, 4_001, i32::MAX] {
+    for distance in [i32::MIN, -1_048_577, -1_048_576, -128, -1, 0, 1, 128, 1_048_576, 1_048_577, i32::MAX] {
         for upper in [0, 1, 0x7FFF_FFFF, 0x8000_0000, 0xFFFF_FFFF] {
             let (mask, mut out) = (random.block(), [0xA5; 16]);
             let register = upper << 32 | u64::from(distance as u32);

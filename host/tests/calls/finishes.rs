@@ -64,7 +64,8 @@ fn the_hash_is_taken_of_key_preauthenticator_and_mask() {
     let mut random = Random::new(73);
     for round in 0..2_000 {
         let (key, iv) = pairs::sealing(&mut random);
-        let (count, preauthenticator) = (if round < 500 { round + 1 } else { random.within(1, 4_000) as u32 }, random.block());
+        let (count, preauthenticator) =
+            (if round < 500 { round + 1 } else { random.within(1, 1_048_576) as u32 }, random.block());
         let start_mask = Mode::<Fips197>::new(&key, &iv).start_mask.to_be_bytes();
         let mask = jump(&start_mask, count as i32).expect("within the limit");
         let digest = sha1(&[&key[..], &preauthenticator, &mask].concat()).expect("a short text");

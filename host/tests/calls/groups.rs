@@ -19,7 +19,7 @@ fn every_number_of_blocks() {
             assert_eq!(bench.check(&call).number, 0);
         }
         let (key, iv, bytes) = (&list.key, &list.iv, list.ciphertext());
-        let (first, room) = (bench.random.within(0, 4_000 - blocks) as u32, bytes.len() + bench.random.below(40));
+        let (first, room) = (bench.random.within(0, 1_048_576 - blocks) as u32, bytes.len() + bench.random.below(40));
         bench.check(&Call::SealRun { key, iv, first, last: false, bytes, room, record_room: 24 });
         let room = list.message.len() + bench.random.below(40);
         for finish in FINISHES {

@@ -2,7 +2,7 @@
 
 use crate::support::bench::Bench;
 use crate::support::call::Call;
-use crate::support::lists::{self, EDGES, LIMIT};
+use crate::support::lists::{self, EDGES, LIMIT, SPAN};
 use crate::support::plan;
 use crate::support::random::Random;
 
@@ -45,7 +45,7 @@ fn every_length(bench: &mut Bench) {
 fn records(random: &mut Random, count: usize) -> Vec<u8> {
     let orderly = !random.once_in(3);
     let mut bytes = Vec::with_capacity(24 * count);
-    let mut next = if random.once_in(2) { 0 } else { random.below(3_000) as u32 };
+    let mut next = if random.once_in(2) { 0 } else { random.below(1_048_000) as u32 };
     for _ in 0..count {
         let orderly = orderly && !random.once_in(12);
         let first = if orderly { next } else { random.edge() };
@@ -59,16 +59,16 @@ fn records(random: &mut Random, count: usize) -> Vec<u8> {
 
 /// A bound for the count: small steps, so that several records fit below the limit.
 fn count_bound(first: u32) -> usize {
-    1 + 4_000_usize.saturating_sub(first as usize) / 2
+    1 + (LIMIT as usize).saturating_sub(first as usize) / 2
 }
 
-/// Every count of which two fit within the limit, in lists of two, three, some and as many as fit: all of it the same count, the
+/// Every count of which two fit within the span, in lists of two, three, some and as many as fit: all of it the same count, the
 /// last one shorter, the first one another.
 #[test]
 fn lists_of_equal_counts() {
     let mut bench = Bench::new(plan::EQUAL_COUNTS);
-    for count in 1..=LIMIT / 2 {
-        let most = (LIMIT / count) as usize;
+    for count in 1..=SPAN / 2 {
+        let most = (SPAN / count) as usize;
         for records in [2, 3.min(most), bench.random.within(2, most), most] {
             let equal = lists::equal(count, records);
             let (mut last_shorter, mut first_other) = (equal.clone(), equal.clone());
@@ -127,14 +127,28 @@ fn stretches_of_few_counts(bench: &mut Bench) {
 #[test]
 fn every_count_on_the_right() {
     let mut bench = Bench::new(plan::EVERY_COUNT);
-    for count in 0..=LIMIT {
+    for count in 0..=SPAN {
         for _ in 0..3 {
-            let left = bench.random.within(0, (LIMIT - count) as usize) as u32;
+            let left = bench.random.within(0, (SPAN - count) as usize) as u32;
             join_in_every_way(&mut bench, &[left, count]);
             join_in_every_way(&mut bench, &lists::fitting([left, count, count]));
         }
     }
+    for count in far_counts() {
+        let anywhere = bench.random.within(0, (LIMIT - count) as usize) as u32;
+        for left in [0, anywhere, LIMIT - count] {
+            let rest = LIMIT - left - count;
+            join_in_every_way(&mut bench, &[left, count]);
+            join_in_every_way(&mut bench, &[left, count, count.min(rest)]);
+        }
+    }
     bench.finish();
+}
+
+/// About each power of two up to the limit, and any.
+fn far_counts() -> impl Iterator<Item = u32> {
+    let about = (0..=20).flat_map(|bit| [(1 << bit) - 1, 1 << bit, (1 << bit) + 1]);
+    about.chain((0..LIMIT).step_by(9_973)).filter(|&count| count <= LIMIT)
 }
 
 /// Joins a list at once, pair by pair from the left and sometimes in groups: the record is the same each time.

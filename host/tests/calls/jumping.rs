@@ -10,14 +10,26 @@ use crate::support::random::Random;
 /// Distances at which something changes: the limit, the length of a block in bits, zero, and the ends of 32 bits.
 #[rustfmt::skip]
 const EDGES: [i32; 19] = [
-    i32::MIN, i32::MIN + 1, -4_001, -4_000, -3_999, -129, -128, -127, -1, 0,
-    1, 127, 128, 129, 3_999, 4_000, 4_001, i32::MAX - 1, i32::MAX,
+    i32::MIN, i32::MIN + 1, -1_048_577, -1_048_576, -1_048_575, -4_001, -128, -127, -1, 0,
+    1, 127, 128, 4_001, 1_048_575, 1_048_576, 1_048_577, i32::MAX - 1, i32::MAX,
 ];
+const LIMIT: i32 = 1_048_576;
+
+/// Every distance that is not far, every 997th up to the limit, and those about the limit: both ways.
+fn distances() -> impl Iterator<Item = i32> {
+    let one_way = (0..=4_020).chain((4_020..LIMIT).step_by(997)).chain(LIMIT - 20..=LIMIT + 20);
+    one_way.flat_map(|distance| [distance, -distance])
+}
+
+/// Any distance within the limit.
+fn within_limit(random: &mut Random) -> i32 {
+    random.within(0, 2 * LIMIT as usize) as i32 - LIMIT
+}
 
 #[test]
 fn every_distance_length_and_room() {
     let mut bench = Bench::new(plan::JUMPS);
-    for distance in -4_020..=4_020 {
+    for distance in distances() {
         for _ in 0..10 {
             let mask = bench.random.block();
             bench.check(&Call::Jump { mask: &mask, distance, room: 16 });
@@ -44,7 +56,7 @@ fn every_distance_length_and_room() {
 #[test]
 fn there_and_back_is_the_identity() {
     let mut random = Random::new(51);
-    for distance in -4_000..=4_000 {
+    for distance in distances().filter(|distance| distance.abs() <= LIMIT) {
         let mask = random.block();
         let there = jump(&mask, distance).expect("in range");
         assert_eq!(jump(&there, -distance), Ok(mask), "{distance}");
@@ -56,10 +68,10 @@ fn distances_add() {
     let mut random = Random::new(52);
     let mut in_range = 0;
     for _ in 0..40_000 {
-        let (mask, [one, other]) = (random.block(), [(); 2].map(|()| random.within(0, 8_000) as i32 - 4_000));
+        let (mask, [one, other]) = (random.block(), [(); 2].map(|()| within_limit(&mut random)));
         let in_turn = jump(&jump(&mask, one).expect("in range"), other).expect("in range");
         let at_once = jump(&mask, one + other);
-        let fits = (one + other).abs() <= 4_000;
+        let fits = (one + other).abs() <= LIMIT;
         assert_eq!(at_once, if fits { Ok(in_turn) } else { Err(Refusal::BeyondLimit) }, "{one} and {other}");
         in_range += u32::from(fits);
     }

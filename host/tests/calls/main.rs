@@ -18,6 +18,7 @@ mod groups;
 mod joining;
 mod jumping;
 mod keys;
+mod longest;
 #[cfg(not(bare_cipher))]
 mod no_bare_cipher;
 mod opening;
@@ -28,6 +29,7 @@ mod secrets;
 mod sha1;
 mod spread;
 mod start_mask;
+mod stored;
 mod typed;
 mod vectors;
 mod words;

@@ -39,7 +39,7 @@ fn checking_every_length_with_every_room() {
 #[test]
 fn first_block_and_count_around_the_limit() {
     let mut bench = Bench::new(plan::RUN_EDGES);
-    for first in (3_990..=4_002).chain([0, 1, 2, 1 << 31, u32::MAX - 1, u32::MAX]) {
+    for first in (3_998..=4_001).chain(1_048_566..=1_048_578).chain([0, 1, 2, 1 << 31, u32::MAX - 1, u32::MAX]) {
         for length in 0..=192 {
             let key_length = bench.random.pick(&pairs::KEY_LENGTHS);
             check_all(&mut bench, [key_length, 16], first, length);
@@ -50,7 +50,7 @@ fn first_block_and_count_around_the_limit() {
         check_all(&mut bench, [key_length, 16], first, length);
     }
     for (key_length, iv_length) in (0..=48).flat_map(|key| (0..=40).map(move |iv| (key, iv))) {
-        for (first, length) in [(0, 16), (3_999, 17), (4_001, 5)] {
+        for (first, length) in [(0, 16), (1_048_575, 17), (1_048_577, 5)] {
             check_all(&mut bench, [key_length, iv_length], first, length);
         }
     }
@@ -71,7 +71,7 @@ fn check_all(bench: &mut Bench, lengths: [usize; 2], first: u32, length: usize) 
 
 /// A first block: any within the limit, or one with which the run just fits or just does not.
 fn first_block(random: &mut Random, length: usize) -> u32 {
-    let room_left = 4_000 - length / 16;
+    let room_left = 1_048_576 - length / 16;
     match random.below(4) {
         0 => random.edge(),
         1 => random.within(room_left - 2, room_left + 1) as u32,

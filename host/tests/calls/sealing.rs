@@ -19,7 +19,7 @@ fn every_length_with_every_room() {
 }
 
 #[test]
-fn longest_messages_and_wrong_lengths() {
+fn long_messages_and_wrong_lengths() {
     let mut bench = Bench::new(plan::SEALING_EDGES);
     for (length, finish) in (63_984..=64_001).flat_map(|length| FINISHES.map(|finish| (length, finish))) {
         let ((key, iv), message) = (pairs::any(&mut bench.random), bench.random.bytes(length));
@@ -28,12 +28,12 @@ fn longest_messages_and_wrong_lengths() {
             bench.check(&Call::Seal { finish, key: &key, iv: &iv, message: &message, room });
         }
     }
-    let (short, long) = (bench.random.bytes(15), bench.random.bytes(64_000));
+    let short = bench.random.bytes(15);
     for (key_length, iv_length) in (0..=48).flat_map(|key| (0..=40).map(move |iv| (key, iv))) {
         let (key, iv) = pairs::of_lengths(&mut bench.random, [key_length, iv_length]);
-        for (message, room) in [(&short, 47), (&short, 48), (&short, 51), (&short, 52), (&long, 0), (&long, 64_100)] {
+        for room in [47, 48, 51, 52] {
             for finish in FINISHES {
-                bench.check(&Call::Seal { finish, key: &key, iv: &iv, message, room });
+                bench.check(&Call::Seal { finish, key: &key, iv: &iv, message: &short, room });
             }
         }
     }

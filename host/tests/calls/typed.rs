@@ -65,11 +65,11 @@ fn the_usual_finish_is_the_ciphers() {
 fn lengths_out_of_range_are_refused() {
     let mut random = Random::new(42);
     let (key, iv) = key_and_iv(&mut random);
-    for length in [64_000, 64_001, 1_000_000] {
+    for length in [16_777_216, 16_777_217, 17_000_000] {
         assert_eq!(seal(&key, &iv, &vec![0; length]), Err(Refusal::Length));
         assert_eq!(seal_with(Finish::Sha1, &key, &iv, &vec![0; length]), Err(Refusal::Length));
     }
-    for length in [0, 16, 32, 47, 49, 64_033, 64_048, 1_000_000] {
+    for length in [0, 16, 32, 47, 49, 64_033, 16_777_249, 16_777_264, 17_000_000] {
         assert_eq!(open(&key, &vec![0; length]), Err(Refusal::Length));
         assert_eq!(open_with(Finish::Sha1, &key, &vec![0; length + 4]), Err(Refusal::Length));
     }
@@ -77,10 +77,10 @@ fn lengths_out_of_range_are_refused() {
         assert_eq!(sha1(&vec![0; length]), Err(Refusal::Length));
     }
     assert_eq!(seal_run(&key, &iv, 0, Kind::Middle, &[0; 17]), Err(Refusal::Length));
-    assert_eq!(seal_run(&key, &iv, 0, Kind::Middle, &vec![0; 64_016]), Err(Refusal::BeyondLimit));
-    assert_eq!(seal_run(&key, &iv, 0, Kind::Last, &vec![0; 64_000]), Err(Refusal::BeyondLimit));
-    assert_eq!(check_run(&key, &iv, 4_000, &[0; 16]), Err(Refusal::BeyondLimit));
-    for distance in [i32::MIN, -4_001, 4_001, i32::MAX] {
+    assert_eq!(seal_run(&key, &iv, 0, Kind::Middle, &vec![0; 16_777_232]), Err(Refusal::BeyondLimit));
+    assert_eq!(seal_run(&key, &iv, 0, Kind::Last, &vec![0; 16_777_216]), Err(Refusal::BeyondLimit));
+    assert_eq!(check_run(&key, &iv, 1_048_576, &[0; 16]), Err(Refusal::BeyondLimit));
+    for distance in [i32::MIN, -1_048_577, 1_048_577, i32::MAX] {
         assert_eq!(jump(&[0; 16], distance), Err(Refusal::BeyondLimit));
     }
     assert_eq!(join_list(&[]), Err(Refusal::NotWhole));
@@ -113,7 +113,7 @@ fn refused_in_every_call((key, iv): pairs::Pair) {
         assert_eq!(seal_run(&key, &iv, 7, kind, b""), Err(refused));
         assert_eq!(seal_run_into(&key, &iv, 7, kind, b"", &mut []), Err(refused));
     }
-    assert_eq!(check_run(&key, &iv, 4_000, b""), Err(refused));
+    assert_eq!(check_run(&key, &iv, 1_048_576, b""), Err(refused));
     assert_eq!(close(&key, &iv, &record), Err(refused));
     assert_eq!(test(&key, &iv, &record, &tag), Err(refused));
 }

@@ -4,7 +4,8 @@
 use std::fs;
 use std::path::Path;
 
-use balzenoh::{close, close_with, hex, jump, open, open_with, seal_run, seal_with, test_with, AnyTag, Iv, Key, Kind, Refusal};
+use balzenoh::{check_run, close, close_with, hex, join_list, jump, open, open_with, seal_run, seal_with, test_with};
+use balzenoh::{AnyTag, Iv, Key, Kind, Refusal};
 
 use crate::support::aesni::{self, AesNi};
 use crate::support::cipher::Cipher;
@@ -167,6 +168,35 @@ fn the_library_meets_the_papers_vectors() {
     assert_eq!(open(&key, &sealed), Err(Refusal::Padding));
 }
 
+/// The second vector: each ciphertext block is the next block, so that the runs of one block come in turn. Then all blocks as one
+/// run, and in runs of at most 2,048 blocks, sealed and checked: the same last values.
+#[test]
+fn the_library_meets_the_papers_million_blocks() {
+    let (key, iv) = (Key::from(block(KEY)), Iv::from(block(IV)));
+    let mut text = block(M1).to_vec();
+    for first in 0..1_000_000 {
+        let (next, record) = seal_run(&key, &iv, first, Kind::Middle, &text[16 * first as usize..]).expect("one block");
+        if first == 999_999 {
+            assert_eq!(hex::encode(&record.preauthenticator), BLOCK_1_000_000[1]);
+        }
+        text.extend(next);
+    }
+    assert_eq!(hex::encode(&text[16_000_000..]), BLOCK_1_000_000[3]);
+    let (plain, sealed) = (&text[..16_000_000], &text[16..]);
+    let whole = seal_run(&key, &iv, 0, Kind::Middle, plain).expect("within the limit");
+    assert!(whole.0 == sealed);
+    let sealed_run = |(first, bytes): (u32, &[u8])| seal_run(&key, &iv, first, Kind::Middle, bytes).expect("a run").1;
+    let checked_run = |(first, bytes): (u32, &[u8])| check_run(&key, &iv, first, bytes).expect("a run");
+    let in_runs = |text| (0..).step_by(2_048).zip(<[u8]>::chunks(text, 16 * 2_048));
+    let records = [in_runs(plain).map(sealed_run).collect::<Vec<_>>(), in_runs(sealed).map(checked_run).collect()];
+    for record in records.map(|records| join_list(&records).expect("neighbours")) {
+        assert_eq!(record, whole.1);
+        assert_eq!((record.count, &hex::encode(&record.preauthenticator)[..]), (1_000_000, BLOCK_1_000_000[2]));
+        let tags = FINISHES.map(|finish| close_with(finish, &key, &iv, &record).expect("a whole record"));
+        assert_eq!(tags.map(|tag| hex::encode(tag.as_bytes())), TAGS_1_000_000);
+    }
+}
+
 /// The same block by each finish: only the tag differs.
 #[test]
 fn the_library_meets_the_papers_tags() {
@@ -224,9 +254,8 @@ fn the_library_meets_the_cards_for_jumps() {
 fn the_papers_masks_lead_back_to_the_start_mask() {
     assert_eq!(jump(&block(BLOCK_2[0]), -1), Ok(block(BLOCK_1[0])));
     assert_eq!(jump(&block(MASK_1_000_001), -1), Ok(block(BLOCK_1_000_000[0])));
-    let back = |mask: [u8; 16], distance| jump(&mask, distance).expect("in range");
-    let far = (0..249).fold(block(BLOCK_1_000_000[0]), |mask, _| back(mask, -4_000));
-    assert_eq!(back(far, -3_999), block(BLOCK_1[0]));
+    assert_eq!(jump(&block(BLOCK_1_000_000[0]), -999_999), Ok(block(BLOCK_1[0])));
+    assert_eq!(jump(&block(BLOCK_1[0]), 1_000_000), Ok(block(MASK_1_000_001)));
 }
 
 /// The references' divisions on the same masks, and on ticket P1's example.

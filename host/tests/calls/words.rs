@@ -7,7 +7,7 @@ use crate::support::bench::Bench;
 use crate::support::call::Call;
 use crate::support::finish::FINISHES;
 use crate::support::fips197::Fips197;
-use crate::support::lists::{self, LIMIT};
+use crate::support::lists::{self, LIMIT, SPAN};
 use crate::support::mode::{divided_by_x, number, times_x};
 use crate::support::pairs;
 use crate::support::plan;
@@ -99,12 +99,12 @@ fn steps_and_jumps_in_words() {
         jump_in_words(&mut bench, mask, -1);
     }
     for mask in edges(&mut bench.random, 20) {
-        for distance in [0, 2, 63, 64, 65, 127, 128, 129, 1_000, 3_999, 4_000] {
+        for distance in [0, 2, 63, 64, 65, 127, 128, 129, 1_000, 4_000, 4_001] {
             jump_in_words(&mut bench, mask, distance);
             jump_in_words(&mut bench, mask, -distance);
         }
     }
-    for distance in -4_000..=4_000 {
+    for distance in (-4_000..=4_000).chain([-1_048_576, -1_048_575, -999_999, 999_999, 1_048_575, 1_048_576]) {
         let kind = bench.random.below(KINDS);
         let mask = carrying(&mut bench.random, kind);
         jump_in_words(&mut bench, mask, distance);
@@ -171,9 +171,10 @@ fn join_in_words(bench: &mut Bench, runs: &[(u32, Words)]) {
 fn runs_and_tags_in_words() {
     let mut bench = Bench::new(plan::WORDS_SEALED);
     for round in 0..2_500 {
-        let blocks = if round % 500 == 0 { LIMIT as usize } else { bench.random.within(0, 70) };
+        let blocks = if round % 500 == 0 { SPAN as usize } else { bench.random.within(0, 70) };
         let highest = LIMIT as usize - blocks;
-        let first = bench.random.pick(&[0, 1, 63, 64, 65, 127, 128, 1_000, highest]).min(highest) as u32;
+        let first =
+            if round % 100 == 0 { highest } else { bench.random.pick(&[0, 1, 63, 64, 65, 127, 128, 1_000, 4_000]) } as u32;
         let ((key, iv), text) = (pairs::sealing(&mut bench.random), bench.random.bytes(16 * blocks));
         let (key, iv) = (&key, &iv);
         let mode = WordMode::<Fips197>::new(key, iv);

@@ -88,7 +88,7 @@ fn the_others_do_not(bench: &mut Bench, list: &SealedList) {
     let cut = bench.random.within(0, list.blocks());
     let (left, right) = (&list.record_of(0, cut), &list.record_of(cut, list.blocks()));
     assert_eq!(bench.check(&Call::Join { left, right, record_room: 24 }).record, list.record);
-    let distance = bench.random.within(0, 8_000) as i32 - 4_000;
+    let distance = bench.random.within(0, 2_097_152) as i32 - 1_048_576;
     let jumped = bench.check(&Call::Jump { mask: &[0; 16], distance, room: 16 });
     assert_eq!((jumped.number, &jumped.out[..]), (0, &[0; 16][..]));
 }
@@ -97,9 +97,9 @@ fn the_others_do_not(bench: &mut Bench, list: &SealedList) {
 #[test]
 fn empty_runs_are_refused_too() {
     let mut bench = Bench::new(plan::NO_MASK_EMPTY);
-    for first in (0..=4_001).chain([1 << 31, u32::MAX]) {
+    for first in (0..=4_001).chain(1_048_570..=1_048_577).chain([1 << 31, u32::MAX]) {
         let (key, iv) = &pairs::of_nothing(&mut bench.random);
-        let number = if first > 4_000 { 4 } else { 10 };
+        let number = if first > 1_048_576 { 4 } else { 10 };
         for record_room in [0, 23, 24] {
             let sealing = Call::SealRun { key, iv, first, last: false, bytes: &[], room: 0, record_room };
             bench.refuses(number, &sealing);

@@ -37,11 +37,28 @@ impl Bench {
         given
     }
 
+    /// The same for a call on megabytes: the faster reference alone, and the bytes are not printed.
+    pub fn check_long(&mut self, call: &Call) -> Answer {
+        self.tally.count(call.function());
+        let answer = if self.with_processor { reference::answer::<AesNi> } else { reference::answer::<Fips197> };
+        let (expected, given) = (answer(call), library::answer(call, &mut self.random));
+        let numbers = |answer: &Answer| (answer.number, answer.length);
+        let about = format!("{}, call {}", self.topic.name, self.tally.total());
+        assert_eq!(numbers(&given), numbers(&expected), "{about}");
+        assert!(given == expected, "{about}: other bytes");
+        given
+    }
+
     /// Makes the call, and holds that it is refused with this number and that nothing is handed out.
     pub fn refuses(&mut self, number: u8, call: &Call) {
-        let Answer { number: given, length, out, record } = self.check(call);
-        let nothing = length == 0 && out.iter().chain(&record).all(|&byte| byte == 0);
-        assert!(given == number && nothing, "{given}, and not {number}: {}", self.about(call));
+        let answer = self.check(call);
+        assert!(answer.refused_with(number), "{}, and not {number}: {}", answer.number, self.about(call));
+    }
+
+    /// The same for a call on megabytes.
+    pub fn refuses_long(&mut self, number: u8, call: &Call) {
+        let answer = self.check_long(call);
+        assert!(answer.refused_with(number), "{}, and not {number}", answer.number);
     }
 
     /// Prints the counts, and sees that the planned number of calls was made.

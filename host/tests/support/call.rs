@@ -44,6 +44,13 @@ pub struct Answer {
     pub record: Vec<u8>,
 }
 
+impl Answer {
+    /// Whether it is this refusal, and nothing is handed out.
+    pub fn refused_with(&self, number: u8) -> bool {
+        self.number == number && self.length == 0 && self.out.iter().chain(&self.record).all(|&byte| byte == 0)
+    }
+}
+
 impl<'a> Call<'a> {
     pub fn function(&self) -> usize {
         let by = |finish: &Finish, cipher, hash| if *finish == Finish::Cipher { cipher } else { hash };

@@ -17,10 +17,10 @@ pub fn around(finish: Finish) -> usize {
     16 + tag_length(finish)
 }
 
-/// The length of the ciphertext in a sealed record of this length: 16 to 64,000 bytes, whole blocks. Nothing where no record is
-/// so long.
+/// The length of the ciphertext in a sealed record of this length: 16 to 16,777,216 bytes, whole blocks. Nothing where no
+/// record is so long.
 pub fn ciphertext_length(finish: Finish, sealed: usize) -> Option<usize> {
-    sealed.checked_sub(around(finish)).filter(|length| (16..=64_000).contains(length) && length % 16 == 0)
+    sealed.checked_sub(around(finish)).filter(|length| (16..=16_777_216).contains(length) && length % 16 == 0)
 }
 
 /// The finish that this one is not.

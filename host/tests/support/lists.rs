@@ -5,7 +5,11 @@ use std::iter::repeat_n;
 
 use super::random::Random;
 
-pub const LIMIT: u32 = 4_000;
+/// The most blocks that a list of records may reach to.
+pub const LIMIT: u32 = 1_048_576;
+
+/// Lists of records are tried with so many blocks together, at most: every count up to that.
+pub const SPAN: u32 = 4_000;
 
 /// Counts about which x to that power changes its form: one zero byte less at its front, reduced for the first time or the second,
 /// more than fits into a byte.
@@ -15,12 +19,12 @@ pub const EDGES: [u32; 26] = [
     127, 128, 129, 135, 136, 247, 248, 249, 255, 256, 257,
 ];
 
-/// As many of the counts as fit within the limit together.
+/// As many of the counts as fit within the span together.
 pub fn fitting(counts: impl IntoIterator<Item = u32>) -> Vec<u32> {
     let mut end = 0;
     let fits = |count: &u32| {
         end += count;
-        end <= LIMIT
+        end <= SPAN
     };
     counts.into_iter().take_while(fits).collect()
 }

@@ -12,7 +12,10 @@ pub fn times_x(block: u128) -> u128 {
 
 /// Multiplies by the variable as often as that.
 pub fn times_x_power(block: u128, power: u32) -> u128 {
-    (0..power).fold(block, |block, _| times_x(block))
+    if power < FEW_STEPS {
+        return (0..power).fold(block, |block, _| times_x(block));
+    }
+    times_power_of(block, 2, power)
 }
 
 /// Divides by the variable: where the low bit is set the polynomial is added first, then comes a shift to the right. Of the
@@ -27,7 +30,40 @@ pub fn divided_by_x(block: u128) -> u128 {
 
 /// Divides by the variable as often as that.
 pub fn divided_by_x_power(block: u128, power: u32) -> u128 {
-    (0..power).fold(block, |block, _| divided_by_x(block))
+    if power < FEW_STEPS {
+        return (0..power).fold(block, |block, _| divided_by_x(block));
+    }
+    times_power_of(block, divided_by_x(1), power)
+}
+
+/// Fewer steps than this are taken one by one.
+const FEW_STEPS: u32 = 1_000;
+
+/// Multiplies by a block as often as that: by its square half as often, and once by itself where the number is odd.
+fn times_power_of(block: u128, base: u128, power: u32) -> u128 {
+    if power == 0 {
+        return block;
+    }
+    let block = if power % 2 == 1 { product(block, base) } else { block };
+    times_power_of(block, product(base, base), power / 2)
+}
+
+/// The product of two polynomials: one of them, times each power of the variable that stands in the other.
+fn product(one: u128, other: u128) -> u128 {
+    (0..128).rev().fold(0, |sum, power| times_x(sum) ^ if other >> power & 1 == 1 { one } else { 0 })
+}
+
+/// Many steps at once are as many single ones.
+#[test]
+fn powers_are_steps() {
+    let block = 0x0123_4567_89AB_CDEF_0123_4567_89AB_CDEF;
+    let (mut forward, mut back) = (block, block);
+    for power in 0..=1_048_600 {
+        if power < 5_000 || power % 997 == 0 || power >= 1_048_570 {
+            assert_eq!((times_x_power(block, power), divided_by_x_power(block, power)), (forward, back), "{power}");
+        }
+        (forward, back) = (times_x(forward), divided_by_x(back));
+    }
 }
 
 /// The mode under one key and IV.

@@ -70,21 +70,26 @@ impl Random {
     }
 
     /// A 32-bit number: often at one of the edges, sometimes any.
+    #[rustfmt::skip]
     pub fn edge(&mut self) -> u32 {
-        const EDGES: [u32; 12] = [0, 0, 1, 2, 3, 3_998, 3_999, 4_000, 4_001, 1 << 31, u32::MAX - 3_999, u32::MAX];
+        const EDGES: [u32; 14] = [
+            0, 0, 1, 2, 3, 4_000, 4_001, 1_048_574, 1_048_575, 1_048_576, 1_048_577, 1 << 31, u32::MAX - 1_048_575, u32::MAX,
+        ];
         match self.below(8) {
             0 => self.next() as u32,
-            1 | 2 => self.below(4_002) as u32,
+            1 => self.below(4_002) as u32,
+            2 => self.below(1_048_578) as u32,
             _ => self.pick(&EDGES),
         }
     }
 
     /// A signed 32-bit number: often at one of the edges, either side of zero, sometimes any.
     pub fn signed_edge(&mut self) -> i32 {
-        const EDGES: [i32; 9] = [0, 1, 127, 128, 3_999, 4_000, 4_001, i32::MAX - 3_999, i32::MAX];
+        const EDGES: [i32; 11] = [0, 1, 127, 128, 4_000, 4_001, 1_048_575, 1_048_576, 1_048_577, i32::MAX - 1_048_575, i32::MAX];
         let number = match self.below(8) {
             0 => return self.next() as i32,
-            1 | 2 => self.below(4_002) as i32,
+            1 => self.below(4_002) as i32,
+            2 => self.below(1_048_578) as i32,
             _ => self.pick(&EDGES),
         };
         // Less one, the most negative number is among them.

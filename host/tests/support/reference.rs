@@ -6,8 +6,8 @@ use super::finish::{around, ciphertext_length, tag_length, Finish};
 use super::mode::{divided_by_x_power, number, padded, times_x_power, unpadded, Mode};
 use super::sha1::sha1;
 
-const LIMIT: u64 = 4_000;
-const LONGEST_MESSAGE: usize = 63_999;
+const LIMIT: u64 = 1_048_576;
+const LONGEST_MESSAGE: usize = 16_777_215;
 const LONGEST_TEXT: usize = 64_032;
 
 /// What a call gives when it is not refused.
@@ -258,7 +258,7 @@ fn whole_rows(record: Record) -> [(u8, bool); 2] {
 }
 
 fn jump(mask: &[u8], distance: i32, room: usize) -> Outcome {
-    rows(&[(3, mask.len() != 16), (4, !(-4_000..=4_000).contains(&distance)), (5, room < 16)])?;
+    rows(&[(3, mask.len() != 16), (4, !(-1_048_576..=1_048_576).contains(&distance)), (5, room < 16)])?;
     let steps = if distance < 0 { divided_by_x_power } else { times_x_power };
     let jumped = steps(number(mask), distance.unsigned_abs());
     Ok(Given { out: jumped.to_be_bytes().to_vec(), ..Given::default() })

@@ -26,7 +26,7 @@ impl SealedList {
         let mode = Mode::<Fips197>::new(&key, &iv);
         let sealed = FINISHES.map(|finish| mode.seal_blocks(finish, &iv, &padded(&message)));
         let mut list = Self { key, iv, message, sealed, record: Vec::new(), first: 0 };
-        list.first = random.within(0, 4_000 - list.blocks()) as u32;
+        list.first = random.within(0, 1_048_576 - list.blocks()) as u32;
         list.record = list.record_of(0, list.blocks());
         list
     }
