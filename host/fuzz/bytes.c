@@ -1,5 +1,7 @@
 #include "bytes.h"
 
+#include <string.h>
+
 static void multiply(uint8_t b[16]) {
     int fell_out = b[0] >= 0x80;
     for (int i = 0; i < 15; i++)
@@ -18,15 +20,47 @@ static void divide(uint8_t b[16]) {
     b[0] = (uint8_t)(b[0] >> 1 | odd << 7);
 }
 
+static void add(uint8_t b[16], const uint8_t other[16]) {
+    for (int i = 0; i < 16; i++)
+        b[i] ^= other[i];
+}
+
+/* Multiplies by a polynomial: b times each power of x that stands in it, from the highest on. */
+static void multiply_by(uint8_t b[16], const uint8_t other[16]) {
+    uint8_t product[16] = {0};
+    for (int bit = 0; bit < 128; bit++) {
+        multiply(product);
+        if ((other[bit / 8] << bit % 8 & 0x80) != 0)
+            add(product, b);
+    }
+    memcpy(b, product, 16);
+}
+
+/* Many steps at once: a product with the step's square, its square and so on, for each bit of their number. */
+static void jump_far(uint8_t block[16], void (*step)(uint8_t *), uint32_t steps) {
+    uint8_t power[16] = {0}, same[16];
+    power[15] = 1;
+    step(power);
+    for (; steps > 0; steps >>= 1) {
+        if ((steps & 1) != 0)
+            multiply_by(block, power);
+        memcpy(same, power, 16);
+        multiply_by(power, same);
+    }
+}
+
 void bytes_jump(uint8_t block[16], int32_t distance) {
-    for (; distance > 0; distance--)
-        multiply(block);
-    for (; distance < 0; distance++)
-        divide(block);
+    void (*step)(uint8_t *) = distance < 0 ? divide : multiply;
+    uint32_t steps = (uint32_t)(distance < 0 ? -distance : distance);
+    if (steps > 5000) {
+        jump_far(block, step, steps);
+        return;
+    }
+    while (steps-- > 0)
+        step(block);
 }
 
 void bytes_join(uint8_t pre[16], const uint8_t right[24]) {
     bytes_jump(pre, (int32_t)((uint32_t)right[4] << 24 | (uint32_t)right[5] << 16 | (uint32_t)right[6] << 8 | right[7]));
-    for (int i = 0; i < 16; i++)
-        pre[i] ^= right[8 + i];
+    add(pre, right + 8);
 }

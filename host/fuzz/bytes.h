@@ -4,7 +4,7 @@
 
 #include <stdint.h>
 
-/* The block moved by so many multiplications by x, or, where the distance is negative, divisions. */
+/* The block moved by so many multiplications by x, or, where the distance is negative, divisions; up to 5,000 of them one by one. */
 void bytes_jump(uint8_t block[16], int32_t distance);
 
 /* Takes the right record into the pre-authenticator of all records to its left. */

@@ -11,6 +11,8 @@ uint32_t draw_below(draw *d, uint32_t n) {
     uint32_t drawn = draw_byte(d);
     if (n > 256)
         drawn |= (uint32_t)draw_byte(d) << 8;
+    if (n > 65536)
+        drawn |= (uint32_t)draw_byte(d) << 16;
     return drawn % n;
 }
 
@@ -26,13 +28,13 @@ static uint32_t draw_32_bits(draw *d) {
 }
 
 uint32_t draw_number(draw *d) {
-    static const uint32_t edges[] = {63, 64, 65, 127, 128, 129, 255, 256, 2000, 3984, 3998, 3999, 4000, 4001, 4095, 4096, 65535, 65536,
-                                     0x7fffffff, 0x80000000, 0xfffff060, 0xfffffffe, 0xffffffff};
+    static const uint32_t edges[] = {63, 64, 65, 127, 128, 129, 255, 256, 2047, 2048, 3999, 4000, 4001, 65535, 65536, 524288,
+                                     1048560, 1048574, 1048575, 1048576, 1048577, 0x7fffffff, 0x80000000, 0xfff00000, 0xfffffffe, 0xffffffff};
     switch (draw_below(d, 4)) {
     case 0:
         return draw_below(d, 20);
     case 1:
-        return draw_below(d, 4001);
+        return draw_below(d, 1048577);
     case 2:
         return edges[draw_below(d, sizeof edges / sizeof edges[0])];
     default:
@@ -41,13 +43,13 @@ uint32_t draw_number(draw *d) {
 }
 
 int32_t draw_distance(draw *d) {
-    static const int32_t edges[] = {63, 64, 65, 127, 128, 129, 3999, 4000, 4001, 4096, 65536, INT32_MAX};
+    static const int32_t edges[] = {63, 64, 65, 127, 128, 129, 4000, 4001, 65536, 1048575, 1048576, 1048577, INT32_MAX};
     int32_t sign = draw_rarely(d, 2) ? -1 : 1;
     switch (draw_below(d, 5)) {
     case 0:
         return sign * (int32_t)draw_below(d, 20);
     case 1:
-        return sign * (int32_t)draw_below(d, 4001);
+        return sign * (int32_t)draw_below(d, 1048577);
     case 2:
     case 3:
         return sign * edges[draw_below(d, sizeof edges / sizeof edges[0])];
@@ -57,7 +59,7 @@ int32_t draw_distance(draw *d) {
 }
 
 size_t draw_length(draw *d) {
-    static const uint16_t edges[] = {63967, 63968, 63983, 63984, 63985, 63998, 63999, 64000, 64001, 64015, 64016, 64032};
+    static const uint16_t edges[] = {32752, 32767, 32768, 63983, 63984, 63998, 63999, 64000, 64001, 64015, 64016, 65535};
     switch (draw_below(d, 32)) {
     case 21:
         return edges[draw_below(d, sizeof edges / sizeof edges[0])];

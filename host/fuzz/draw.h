@@ -13,7 +13,7 @@ typedef struct {
 
 uint8_t draw_byte(draw *d);
 
-/* A number below n, n being at most 65536. */
+/* A number below n, n being at most 16777216. */
 uint32_t draw_below(draw *d, uint32_t n);
 
 /* True about once in n times, n being at most 256. */
@@ -25,7 +25,8 @@ uint32_t draw_number(draw *d);
 /* A distance to jump, forward or back: near 0, within the limit, at an edge, or any 32 bits. */
 int32_t draw_distance(draw *d);
 
-/* The length of a message or a run: mostly short, often at the edge of a block, rarely at the limit's. */
+/* The length of a message or a run: mostly short, often at the edge of a block, rarely some thousands of blocks. Those about the limit are
+   guard_long's. */
 size_t draw_length(draw *d);
 
 /* A length that should be `right`, and mostly is. */

@@ -1,6 +1,6 @@
 /* A deliberately wrong library, to see that the harness finds what is wrong: the linker's --wrap puts these functions over the right ones.
    FAULT in the environment names the fault; all else stays right. Those of the hash finish are in faults_sha1.c, those of opening into a short
-   output in faults_open.c. */
+   output in faults_open.c, those of the limit in faults_limit.c. */
 #include "faults.h"
 
 #include "aes.h"
@@ -101,7 +101,7 @@ uint8_t __wrap_balzenoh_seal(const uint8_t *key, size_t key_len, const uint8_t *
         reference_seal(BY_CIPHER, key, key_len, iv, iv_len, message, message_len, out, out_len, length);
         wrong = 0;
     }
-    return refusal;
+    return fault_of_limit("seal", refusal, 3, 0, message_len / 16 + 1);
 }
 
 uint8_t __real_balzenoh_open(const uint8_t *, size_t, const uint8_t *, size_t, uint8_t *, size_t, size_t *);
@@ -116,6 +116,7 @@ uint8_t __wrap_balzenoh_open(const uint8_t *key, size_t key_len, const uint8_t *
         return 0;
     if (fault_is("zero-mask-taken-for-a-wrong-tag") && refusal == 10)
         return 6;
+    refusal = fault_of_limit_in_opening("open", refusal, BY_CIPHER, sealed_len);
     return fault_in_opening(refusal, BY_CIPHER, key, key_len, sealed, sealed_len, out, out_len, length);
 }
 
@@ -135,7 +136,7 @@ uint8_t __wrap_balzenoh_seal_run(const uint8_t *key, size_t key_len, const uint8
     uint8_t refusal = __real_balzenoh_seal_run(key, key_len, iv, iv_len, first, last, bytes, bytes_len, out, out_len, length, run, run_len);
     if (fault_is("output-judged-before-the-limit") && refusal == 4 && run_len < 24)
         return 5;
-    if (fault_is("jump-by-the-count") && refusal == 0 && 2 * *length / 16 <= 4000) {
+    if (fault_is("jump-by-the-count") && refusal == 0) {
         uint8_t right[4];
         uint32_t count = (uint32_t)(*length / 16);
         memcpy(right, run, 4);
@@ -146,7 +147,7 @@ uint8_t __wrap_balzenoh_seal_run(const uint8_t *key, size_t key_len, const uint8
         return 10;
     if (fault_is("words-swapped-in-a-record") && refusal == 0)
         swap_words(run + 8);
-    return refusal;
+    return fault_of_limit("seal_run", refusal, 4, first, bytes_len / 16 + (last != 0));
 }
 
 uint8_t __real_balzenoh_check_run(const uint8_t *, size_t, const uint8_t *, size_t, uint32_t, const uint8_t *, size_t, uint8_t *, size_t);
@@ -156,6 +157,7 @@ uint8_t __wrap_balzenoh_check_run(const uint8_t *key, size_t key_len, const uint
     if (fault_is("input-written") && refusal == 0 && bytes_len > 0)
         ((uint8_t *)(uintptr_t)bytes)[bytes_len - 1] ^= 1;
     if (fault_is("zero-mask-let-through-for-an-empty-run") && refusal == 10 && bytes_len == 0 && run_len >= 24) {
+        run[1] = (uint8_t)(first >> 16);
         run[2] = (uint8_t)(first >> 8);
         run[3] = (uint8_t)first;
         return 0;
@@ -171,7 +173,7 @@ uint8_t __wrap_balzenoh_check_run(const uint8_t *key, size_t key_len, const uint
     }
     if (fault_is("input-read-beyond-its-end"))
         return refusal + 0 * *(volatile const uint8_t *)(bytes + bytes_len);
-    return refusal;
+    return fault_of_limit("check_run", refusal, 4, first, bytes_len / 16);
 }
 
 static int32_t count_of(const uint8_t *run) {
@@ -219,11 +221,15 @@ static void join_by_wrong_powers(const uint8_t *records, size_t records_len, uin
 /* What has been added to the joined record's low word is taken off again. */
 uint8_t __real_balzenoh_join(const uint8_t *, size_t, const uint8_t *, size_t, uint8_t *, size_t);
 uint8_t __wrap_balzenoh_join(const uint8_t *left, size_t left_len, const uint8_t *right, size_t right_len, uint8_t *run, size_t run_len) {
-    uint8_t refusal = __real_balzenoh_join(left, left_len, right, right_len, run, run_len);
+    uint8_t refusal = __real_balzenoh_join(left, left_len, right, right_len, run, run_len), both[48];
     if (fault_is("low-word-of-a-join-not-added") && refusal == 0)
         for (size_t i = 16; i < 24; i++)
             run[i] ^= right[i];
-    return refusal;
+    if (refusal == 24)
+        return refusal;
+    memcpy(both, left, 24);
+    memcpy(both + 24, right, 24);
+    return fault_of_limit_in_records("join", refusal, both, sizeof both);
 }
 
 uint8_t __real_balzenoh_join_list(const uint8_t *, size_t, uint8_t *, size_t);
@@ -233,7 +239,7 @@ uint8_t __wrap_balzenoh_join_list(const uint8_t *records, size_t records_len, ui
         return __real_balzenoh_join_list(records, 48, run, run_len);
     if (keeps_powers_wrongly() && refusal == 0)
         join_by_wrong_powers(records, records_len, run);
-    return refusal;
+    return fault_of_limit_in_records("join_list", refusal, records, records_len);
 }
 
 /* Closes a record whose upper word is read least significant byte first. */
@@ -262,7 +268,7 @@ uint8_t __wrap_balzenoh_close(const uint8_t *key, size_t key_len, const uint8_t 
         return close_from_the_low_end(key, key_len, iv, run, tag, tag_len);
     if (is_wrong_under(key_len, "last-bytes-lent") && refusal == 0)
         close_with_the_last_bytes_lent(key, iv, run, tag, tag_len);
-    return refusal;
+    return fault_of_limit_in_records("close", refusal, run, run_len);
 }
 
 uint8_t __real_balzenoh_test(const uint8_t *, size_t, const uint8_t *, size_t, const uint8_t *, size_t, const uint8_t *, size_t);
@@ -276,15 +282,13 @@ uint8_t __wrap_balzenoh_test(const uint8_t *key, size_t key_len, const uint8_t *
     }
     if (fault_is("zero-mask-let-through-in-testing") && refusal == 10)
         return 6;
-    return refusal;
+    return fault_of_limit_in_records("test", refusal, run, run_len);
 }
 
 /* The distance that a wrong jump takes the given one for. */
 static int32_t wrong_distance(int32_t distance) {
     if (fault_is("sign-of-the-distance-lost") && distance < 0 && distance != INT32_MIN)
         return -distance;
-    if (fault_is("jump-by-minus-4001-let-through") && distance == -4001)
-        return -4000;
     if (fault_is("most-negative-distance-let-through") && distance == INT32_MIN)
         return 0;
     return distance;
@@ -313,13 +317,13 @@ uint8_t __wrap_balzenoh_jump(const uint8_t *mask, size_t mask_len, int32_t dista
     uint8_t refusal = __real_balzenoh_jump(mask, mask_len, wrong_distance(distance), out, out_len);
     if (fault_is("byte-written-after-the-output"))
         out[out_len] = 0;
-    if (fault_is("jump-by-4000-refused") && distance == 4000) {
+    if (fault_is("jump-by-the-limit-refused") && distance == 1048576 && refusal != 3) {
         memset(out, 0, out_len);
-        return refusal == 3 ? 3 : 4;
+        return 4;
     }
     if (fault_is("division-with-85-for-87") && refusal == 0 && distance < 0 && out[0] >= 0x80)
         out[15] ^= (0x85 ^ 0x87) >> 1;
     if ((fault_is("carry-between-the-words-lost") || fault_is("87-into-the-upper-word")) && refusal == 0 && distance > 0)
         jump_by_wrong_steps(mask, distance, out);
-    return refusal;
+    return fault_of_limit("jump", refusal, 4, 0, (uint64_t)llabs((long long)distance));
 }

@@ -3,7 +3,7 @@
 
 #include <string.h>
 
-static uint8_t text[16 * 4000];
+static uint8_t text[16 * 5000];
 
 /* The message that a genuine record has, in `text`; gives its length. */
 static size_t message_of(enum finish by, const uint8_t *key, size_t key_len, const uint8_t *sealed, size_t sealed_len) {

@@ -109,7 +109,7 @@ uint8_t __wrap_balzenoh_close_sha1(const uint8_t *key, size_t key_len, const uin
         memset(tag + 16, 0, 4);
     if (fault_is("room-for-16-bytes-is-enough") && refusal == 5 && tag_len >= 16)
         return reference_close(BY_CIPHER, key, key_len, iv, iv_len, run, run_len, tag, tag_len);
-    return refusal;
+    return fault_of_limit_in_records("close_sha1", refusal, run, run_len);
 }
 
 uint8_t __real_balzenoh_test_sha1(const uint8_t *, size_t, const uint8_t *, size_t, const uint8_t *, size_t, const uint8_t *, size_t);
@@ -121,7 +121,7 @@ uint8_t __wrap_balzenoh_test_sha1(const uint8_t *key, size_t key_len, const uint
         uint8_t closed = reference_close(BY_HASH, key, key_len, iv, iv_len, run, run_len, right, sizeof right);
         return closed != 0 ? closed : memcmp(right, tag, 16) == 0 ? 0 : 6;
     }
-    return refusal;
+    return fault_of_limit_in_records("test_sha1", refusal, run, run_len);
 }
 
 uint8_t __real_balzenoh_open_sha1(const uint8_t *, size_t, const uint8_t *, size_t, uint8_t *, size_t, size_t *);
@@ -130,8 +130,6 @@ uint8_t __wrap_balzenoh_open_sha1(const uint8_t *key, size_t key_len, const uint
     uint8_t refusal = __real_balzenoh_open_sha1(key, key_len, sealed, sealed_len, out, out_len, length);
     if (fault_is("records-of-both-finishes-opened") && refusal == 3 && sealed_len % 16 == 0)
         return reference_open(BY_CIPHER, key, key_len, sealed, sealed_len, out, out_len, length);
-    if (fault_is("4001-blocks-opened") && refusal == 3 && sealed_len == 64052)
-        return 6;
     if (fault_is("plaintext-left-after-a-wrong-hash") && refusal == 6 && out_len > 0)
         out[0] = 1;
     if (fault_is("four-bytes-more-of-room-asked-for") && refusal == 0 && out_len < *length + 4) {
@@ -139,6 +137,7 @@ uint8_t __wrap_balzenoh_open_sha1(const uint8_t *key, size_t key_len, const uint
         *length = 0;
         return 5;
     }
+    refusal = fault_of_limit_in_opening("open_sha1", refusal, BY_HASH, sealed_len);
     return fault_in_opening(refusal, BY_HASH, key, key_len, sealed, sealed_len, out, out_len, length);
 }
 
@@ -161,5 +160,5 @@ uint8_t __wrap_balzenoh_seal_sha1(const uint8_t *key, size_t key_len, const uint
         reference_seal(BY_CIPHER, key, key_len, iv, iv_len, message, message_len, out, out_len, length);
         *length += 4;
     }
-    return refusal;
+    return fault_of_limit("seal_sha1", refusal, 3, 0, message_len / 16 + 1);
 }

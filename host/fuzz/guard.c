@@ -8,7 +8,9 @@
 
 enum { PAGE = 4096, ROOM = (LONGEST / PAGE + 1) * PAGE, CANARY = 64, CANARY_BYTE = 0xc3 };
 
-static uint8_t *input_end[INPUTS];
+enum { LONG_ROOM = 16 * 1048576 + PAGE };
+
+static uint8_t *input_end[INPUTS], *long_end;
 static slice given[INPUTS];
 
 static struct {
@@ -17,19 +19,31 @@ static struct {
     int lent;
 } output[OUTPUTS];
 
-/* Each input has a stretch of pages to itself, and the page after it can be neither read nor written. */
-void guard_start(void) {
-    for (int i = 0; i < INPUTS; i++) {
-        uint8_t *start = mmap(NULL, ROOM + PAGE, PROT_READ | PROT_WRITE, MAP_PRIVATE | MAP_ANONYMOUS, -1, 0);
-        if (start == MAP_FAILED || mprotect(start + ROOM, PAGE, PROT_NONE) != 0) {
-            perror("guard_start");
-            exit(1);
-        }
-        input_end[i] = start + ROOM;
+/* A stretch of pages, of which the one after it can be neither read nor written. Gives its end. */
+static uint8_t *stretch(size_t room, int protection) {
+    uint8_t *start = mmap(NULL, room + PAGE, protection, MAP_PRIVATE | MAP_ANONYMOUS, -1, 0);
+    if (start == MAP_FAILED || mprotect(start + room, PAGE, PROT_NONE) != 0) {
+        perror("guard_start");
+        exit(1);
     }
+    return start + room;
+}
+
+/* Each input has a stretch to itself. */
+void guard_start(void) {
+    for (int i = 0; i < INPUTS; i++)
+        input_end[i] = stretch(ROOM, PROT_READ | PROT_WRITE);
+    long_end = stretch(LONG_ROOM, PROT_READ);
+}
+
+slice guard_long(size_t len) {
+    slice s = {long_end - len, len};
+    return s;
 }
 
 const uint8_t *guard_input(int i, slice input) {
+    if (input.len > 0 && input.bytes + input.len == long_end)
+        return input.bytes;
     given[i] = input;
     if (input.len > 0)
         memcpy(input_end[i] - input.len, input.bytes, input.len);

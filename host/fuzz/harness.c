@@ -8,7 +8,7 @@
 #include <stdlib.h>
 #include <string.h>
 
-enum { CALLS = 16, LIMIT = 4000, RECORD = 24, RECORDS = 256, RUNS = 6 };
+enum { CALLS = 16, LIMIT = 1048576, RECORD = 24, RECORDS = 256, RUNS = 6 };
 
 static uint8_t key[64], iv[64], message[LONGEST], buffer[LONGEST], records[(RECORDS + 3) * RECORD];
 static size_t key_len;
@@ -76,9 +76,9 @@ static void open_buffer(draw *d, enum finish by, size_t len, size_t message_len)
 
 /* A record as the mode gives it, perhaps damaged, perhaps of a wrong length. */
 static void call_open(draw *d) {
-    static uint8_t text[16 * LIMIT];
+    static uint8_t text[LONGEST];
     enum finish by = draw_finish(d);
-    size_t len = draw_length(d) % sizeof text, blocks = len / 16 + 1, sealed = 16 * blocks + reference_around(by);
+    size_t len = draw_length(d), blocks = len / 16 + 1, sealed = 16 * blocks + reference_around(by);
     memset(text, 0, 16 * blocks);
     memcpy(text, message, len);
     text[len] = 0x80;
@@ -101,10 +101,10 @@ static void call_open_unpadded(draw *d) {
     open_buffer(d, by, len + reference_around(by), place);
 }
 
-/* Any bytes, of any length near those that opening takes, by the hash four bytes longer; rarely with one block more than it takes. */
+/* Any bytes, of any length near those that opening takes, by the hash four bytes longer. */
 static void call_open_noise(draw *d) {
     enum finish by = draw_finish(d);
-    size_t len = draw_rarely(d, 16) ? 16 * (LIMIT + 1) + reference_around(by) : draw_length(d) + (by == BY_HASH ? 4 : 0);
+    size_t len = draw_length(d) + (by == BY_HASH ? 4 : 0);
     memcpy(buffer, message, len);
     open_buffer(d, by, len, len);
 }
@@ -138,6 +138,31 @@ static void call_check_run(draw *d) {
         len -= len % 16;
     uint32_t first = draw_first(d, len / 16);
     both_check_run(k, v, first, bytes_of(message, len), draw_room(d, RECORD));
+}
+
+/* ---- what is about the limit. No output is lent in which an answer would fit: the call gets 3, 4 or 5, or a row above these, without work. */
+
+/* A number of blocks that is the most, or one more, and a length of that many: the last one perhaps not whole. */
+static size_t draw_longest(draw *d) {
+    return 16 * (LIMIT + (size_t)draw_below(d, 2)) - (draw_rarely(d, 2) ? 1 + draw_below(d, 16) : 0);
+}
+
+static void call_longest_list(draw *d) {
+    enum finish by = draw_finish(d);
+    slice k = draw_key(d), v = draw_iv(d);
+    if (draw_rarely(d, 2))
+        both_open(by, k, guard_long(16 * (LIMIT + 1 + (size_t)draw_below(d, 2)) + reference_around(by)), draw_below(d, 64));
+    else
+        both_seal(by, k, v, guard_long(draw_longest(d)), draw_below(d, 64));
+}
+
+static void call_longest_run(draw *d) {
+    slice k = draw_key(d), v = draw_iv(d), bytes = guard_long(draw_longest(d));
+    uint32_t first = draw_below(d, 3);
+    if (draw_rarely(d, 2))
+        both_check_run(k, v, first, bytes, draw_below(d, RECORD));
+    else
+        both_seal_run(k, v, first, draw_rarely(d, 2), bytes, draw_below(d, 64), RECORD);
 }
 
 /* ---- records */
@@ -182,7 +207,7 @@ static pattern draw_pattern(draw *d, size_t length) {
     p.way = draw_below(d, 4);
     p.with_empty = draw_rarely(d, 4);
     p.counts[0] = draw_repeated(d, length);
-    p.counts[1] = draw_rarely(d, 2) ? p.counts[0] ^ 1U << draw_below(d, 10) : draw_repeated(d, length);
+    p.counts[1] = draw_rarely(d, 2) ? p.counts[0] ^ 1U << draw_below(d, 12) : draw_repeated(d, length);
     return p;
 }
 
@@ -387,7 +412,8 @@ static void draw_list(draw *d) {
 
 int LLVMFuzzerTestOneInput(const uint8_t *bytes, size_t len) {
     static void (*const calls[])(draw *) = {call_seal, call_open, call_open_unpadded, call_open_noise, call_seal_run, call_check_run,
-                                            call_join, call_join_list, call_close, call_test, call_jump, call_cut, call_sha1};
+                                            call_join, call_join_list, call_close, call_test, call_jump, call_cut, call_sha1,
+                                            call_longest_list, call_longest_run};
     draw d = {bytes, len};
     draw_list(&d);
     for (int i = 0; i < CALLS && d.left > 0; i++)

@@ -5,7 +5,7 @@
 
 #include <string.h>
 
-enum { LIMIT = 4000, RECORD = 24, TAG = 16, LONGEST_TEXT = 64032 };
+enum { LIMIT = 1048576, RECORD = 24, TAG = 16, LONGEST_TEXT = 64032 };
 
 /* ---- blocks as polynomials: bit 63 of `upper` is the coefficient of the 127th power */
 
@@ -50,7 +50,34 @@ static poly times_x(poly p) {
     return p;
 }
 
+/* The product of two polynomials: one of them, times each power of x that stands in the other, from the highest on. */
+static poly product(poly a, poly b) {
+    poly p = {0, 0};
+    for (int bit = 127; bit >= 0; bit--) {
+        p = times_x(p);
+        if (((bit >= 64 ? b.upper >> (bit - 64) : b.lower >> bit) & 1) != 0)
+            p = sum(p, a);
+    }
+    return p;
+}
+
+/* Many steps at once, of which `step` is one: by its square, the square of that and so on, for each bit of their number. */
+static poly times_power(poly p, poly step, uint32_t power) {
+    for (; power > 0; power >>= 1) {
+        if ((power & 1) != 0)
+            p = product(p, step);
+        step = product(step, step);
+    }
+    return p;
+}
+
+/* Up to so many steps are taken one by one. */
+enum { FEW_STEPS = 5000 };
+static const poly ONE = {0, 1};
+
 static poly times_x_to_the(poly p, uint32_t power) {
+    if (power > FEW_STEPS)
+        return times_power(p, times_x(ONE), power);
     while (power-- > 0)
         p = times_x(p);
     return p;
@@ -69,6 +96,8 @@ static poly divided_by_x(poly p) {
 }
 
 static poly divided_by_x_to_the(poly p, uint32_t power) {
+    if (power > FEW_STEPS)
+        return times_power(p, divided_by_x(ONE), power);
     while (power-- > 0)
         p = divided_by_x(p);
     return p;
@@ -177,7 +206,7 @@ static void seal_text(enum finish by, const whole_key *k, poly mask, const uint8
 /* The message with its padding, in memory that the next call uses again. */
 static const uint8_t *padded(const uint8_t *message, size_t length) {
     static uint8_t text[16 * LIMIT];
-    memset(text, 0, sizeof text);
+    memset(text + length / 16 * 16, 0, 16);
     if (length > 0)
         memcpy(text, message, length);
     text[length] = 0x80;
@@ -241,7 +270,7 @@ uint8_t reference_seal(enum finish by, const uint8_t *key, size_t key_len, const
         return 1;
     if (iv_len != 16)
         return 2;
-    if (message_len > 63999)
+    if (message_len > 16777215)
         return 3;
     poly mask = step_1(&k, key, key_len, iv);
     if (is_zero(mask))
@@ -253,7 +282,7 @@ uint8_t reference_seal(enum finish by, const uint8_t *key, size_t key_len, const
     return 0;
 }
 
-/* The length of the ciphertext in a sealed record of this length: 1 to 4,000 blocks, or 0 where no record is so long. */
+/* The length of the ciphertext in a sealed record of this length: 1 to 1,048,576 blocks, or 0 where no record is so long. */
 static size_t ciphertext_length(enum finish by, size_t sealed_len) {
     size_t around = reference_around(by);
     if (sealed_len < around + 16 || sealed_len > around + 16 * LIMIT || (sealed_len - around) % 16 != 0)
