@@ -36,28 +36,36 @@ static void multiply_by(uint8_t b[16], const uint8_t other[16]) {
     memcpy(b, product, 16);
 }
 
-/* Many steps at once: a product with the step's square, its square and so on, for each bit of their number. */
-static void jump_far(uint8_t block[16], void (*step)(uint8_t *), uint32_t steps) {
-    uint8_t power[16] = {0}, same[16];
-    power[15] = 1;
-    step(power);
-    for (; steps > 0; steps >>= 1) {
-        if ((steps & 1) != 0)
-            multiply_by(block, power);
-        memcpy(same, power, 16);
-        multiply_by(power, same);
+/* What 1, 2, 4 and so on of these steps multiply by. */
+typedef uint8_t powers[32][16];
+
+static void work_out(powers p, void (*step)(uint8_t *)) {
+    p[0][15] = 1;
+    step(p[0]);
+    for (int i = 1; i < 32; i++) {
+        memcpy(p[i], p[i - 1], 16);
+        multiply_by(p[i], p[i - 1]);
     }
 }
 
+/* Many steps at once: a product for each bit of their number. */
+static void jump_far(uint8_t block[16], int back, uint32_t steps) {
+    static powers of_steps[2];
+    if (of_steps[back][0][15] == 0)
+        work_out(of_steps[back], back ? divide : multiply);
+    for (int bit = 0; steps >> bit != 0; bit++)
+        if ((steps >> bit & 1) != 0)
+            multiply_by(block, of_steps[back][bit]);
+}
+
 void bytes_jump(uint8_t block[16], int32_t distance) {
-    void (*step)(uint8_t *) = distance < 0 ? divide : multiply;
     uint32_t steps = (uint32_t)(distance < 0 ? -distance : distance);
     if (steps > 5000) {
-        jump_far(block, step, steps);
+        jump_far(block, distance < 0, steps);
         return;
     }
     while (steps-- > 0)
-        step(block);
+        (distance < 0 ? divide : multiply)(block);
 }
 
 void bytes_join(uint8_t pre[16], const uint8_t right[24]) {

@@ -60,10 +60,13 @@ int32_t draw_distance(draw *d) {
 
 size_t draw_length(draw *d) {
     static const uint16_t edges[] = {32752, 32767, 32768, 63983, 63984, 63998, 63999, 64000, 64001, 64015, 64016, 65535};
-    switch (draw_below(d, 32)) {
+    switch (draw_below(d, 128)) {
     case 21:
         return edges[draw_below(d, sizeof edges / sizeof edges[0])];
     case 13:
+    case 45:
+    case 77:
+    case 109:
         return draw_below(d, 4096);
     default:
         return draw_rarely(d, 2) ? 16 * draw_below(d, 12) : draw_below(d, 100);

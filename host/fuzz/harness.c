@@ -140,7 +140,8 @@ static void call_check_run(draw *d) {
     both_check_run(k, v, first, bytes_of(message, len), draw_room(d, RECORD));
 }
 
-/* ---- what is about the limit. No output is lent in which an answer would fit: the call gets 3, 4 or 5, or a row above these, without work. */
+/* ---- what is about the limit. No output is lent in which an answer would fit, or a run to be checked goes beyond the limit: the call gets 3, 4
+   or 5, or a row above these, without work. */
 
 /* A number of blocks that is the most, or one more, and a length of that many: the last one perhaps not whole. */
 static size_t draw_longest(draw *d) {
@@ -160,7 +161,7 @@ static void call_longest_run(draw *d) {
     slice k = draw_key(d), v = draw_iv(d), bytes = guard_long(draw_longest(d));
     uint32_t first = draw_below(d, 3);
     if (draw_rarely(d, 2))
-        both_check_run(k, v, first, bytes, draw_below(d, RECORD));
+        both_check_run(k, v, first + 2, bytes, draw_room(d, RECORD));
     else
         both_seal_run(k, v, first, draw_rarely(d, 2), bytes, draw_below(d, 64), RECORD);
 }

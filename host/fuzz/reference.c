@@ -61,13 +61,14 @@ static poly product(poly a, poly b) {
     return p;
 }
 
-/* Many steps at once, of which `step` is one: by its square, the square of that and so on, for each bit of their number. */
-static poly times_power(poly p, poly step, uint32_t power) {
-    for (; power > 0; power >>= 1) {
-        if ((power & 1) != 0)
-            p = product(p, step);
-        step = product(step, step);
-    }
+/* Many steps at once, of which `step` is one: a product for each bit of their number, with as many steps as the bit stands for. What those are
+   is kept in `kept`. */
+static poly times_power(poly p, poly step, uint32_t power, poly kept[32]) {
+    for (int i = 0; is_zero(kept[31]) && i < 32; i++)
+        kept[i] = i == 0 ? step : product(kept[i - 1], kept[i - 1]);
+    for (int bit = 0; bit < 32; bit++)
+        if ((power >> bit & 1) != 0)
+            p = product(p, kept[bit]);
     return p;
 }
 
@@ -76,8 +77,9 @@ enum { FEW_STEPS = 5000 };
 static const poly ONE = {0, 1};
 
 static poly times_x_to_the(poly p, uint32_t power) {
+    static poly kept[32];
     if (power > FEW_STEPS)
-        return times_power(p, times_x(ONE), power);
+        return times_power(p, times_x(ONE), power, kept);
     while (power-- > 0)
         p = times_x(p);
     return p;
@@ -96,8 +98,9 @@ static poly divided_by_x(poly p) {
 }
 
 static poly divided_by_x_to_the(poly p, uint32_t power) {
+    static poly kept[32];
     if (power > FEW_STEPS)
-        return times_power(p, divided_by_x(ONE), power);
+        return times_power(p, divided_by_x(ONE), power, kept);
     while (power-- > 0)
         p = divided_by_x(p);
     return p;

@@ -31,11 +31,11 @@
 //! | call | on typed values | on plain slices |
 //! |---|---|---|
 //! | seal a list | [`seal`], [`seal_into`], [`seal_in_runs`] | [`raw::seal`] |
-//! | the same with a finish | [`seal_with`], [`seal_into_with`], [`seal_in_runs_with`] | [`raw::seal_with`] |
+//! | the same with a finish | [`seal_with`], [`seal_into_with`], [`seal_in_runs_with`], [`seal_in_runs_watched`] | [`raw::seal_with`] |
 //! | open it | [`open`], [`open_into`] | [`raw::open`] |
 //! | the same with a finish | [`open_with`], [`open_into_with`] | [`raw::open_with`] |
 //! | seal a run of its blocks | [`seal_run`], [`seal_run_into`] | [`raw::seal_run`] |
-//! | check a run of its ciphertext, or all of it in runs | [`check_run`], [`check_in_runs`], [`check_in_runs_with`] | [`raw::check_run`] |
+//! | check a run of its ciphertext, or all of it in runs | [`check_run`], [`check_in_runs`], [`check_in_runs_with`], [`check_in_runs_watched`] | [`raw::check_run`] |
 //! | join run records | [`RunRecord::join`], [`join_list`] | [`raw::join`], [`raw::join_list`] |
 //! | close a record into its tag | [`close`], [`close_with`] | [`raw::close`], [`raw::close_with`] |
 //! | test a tag | [`test`](fn@test), [`test_with`] | [`raw::test`], [`raw::test_with`] |
@@ -73,6 +73,7 @@ pub use mask::jump;
 pub use record::{close, close_with, join_list, test, test_with, RunRecord};
 pub use refusal::{Refusal, UnknownNumber};
 pub use run::{check_run, seal_run, seal_run_into, Kind};
-pub use spread::{check_in_runs, check_in_runs_with, seal_in_runs, seal_in_runs_with};
+pub use spread::{check_in_runs, check_in_runs_watched, check_in_runs_with};
+pub use spread::{seal_in_runs, seal_in_runs_watched, seal_in_runs_with};
 pub use values::{Iv, Tag};
 pub use whole::{open, open_into, open_into_with, open_with, seal, seal_into, seal_into_with, seal_with};

@@ -59,6 +59,40 @@ pub fn seal_in_runs_with(
     runs: usize,
     threads: usize,
 ) -> Result<Vec<u8>, Refusal> {
+    seal_in_runs_watched(finish, key, iv, message, runs, threads, |_| ())
+}
+
+/// The same as [`seal_in_runs_with`], for a program that shows how far it is. Each time a run is sealed, `done` is called with the
+/// number of its blocks, on the thread that sealed it, so perhaps on several threads at once. The runs have all blocks of the list
+/// together: one for each 16 bytes of the message, and one more ([`padded_blocks`]).
+///
+/// # Errors
+///
+/// Those of [`seal`](crate::seal).
+///
+/// ```
+/// use balzenoh::{seal_in_runs_watched, Finish, Iv, Key, Refusal};
+/// use std::sync::atomic::{AtomicUsize, Ordering};
+///
+/// let (key, iv, list) = (Key::from([7; 16]), Iv::from([1; 16]), [b'x'; 1_000]);
+/// let sealed = AtomicUsize::new(0);
+/// let done = |blocks| {
+///     let now = sealed.fetch_add(blocks, Ordering::Relaxed) + blocks;
+///     println!("{now} of 63 blocks");
+/// };
+/// seal_in_runs_watched(Finish::Cipher, &key, &iv, &list, 8, 2, done)?;
+/// assert_eq!(sealed.into_inner(), 63);
+/// # Ok::<(), Refusal>(())
+/// ```
+pub fn seal_in_runs_watched(
+    finish: Finish,
+    key: &Key,
+    iv: &Iv,
+    message: &[u8],
+    runs: usize,
+    threads: usize,
+    done: impl Fn(usize) + Sync,
+) -> Result<Vec<u8>, Refusal> {
     if message.len() > LONGEST_MESSAGE {
         return Err(Refusal::Length);
     }
@@ -67,7 +101,9 @@ pub fn seal_in_runs_with(
     let ciphertext = &mut sealed[BLOCK..][..blocks * BLOCK];
     let mut jobs = sealing_jobs(message, ciphertext, &cut(blocks, runs));
     let records = share_out(&mut jobs, threads, |job| {
-        seal_run_into(key, iv, job.first, job.kind, job.bytes, job.out).map(|(_, record)| record)
+        let (_, record) = seal_run_into(key, iv, job.first, job.kind, job.bytes, job.out)?;
+        done(record.count as usize);
+        Ok(record)
     })?;
     let tag = close_with(finish, key, iv, &join_list(&records)?)?;
     sealed[..BLOCK].copy_from_slice(iv.as_bytes());
@@ -112,6 +148,38 @@ pub fn check_in_runs(key: &Key, sealed: &[u8], runs: usize, threads: usize) -> R
 /// # Ok::<(), Refusal>(())
 /// ```
 pub fn check_in_runs_with(finish: Finish, key: &Key, sealed: &[u8], runs: usize, threads: usize) -> Result<(), Refusal> {
+    check_in_runs_watched(finish, key, sealed, runs, threads, |_| ())
+}
+
+/// The same as [`check_in_runs_with`], for a program that shows how far it is: `done` is called as that of [`seal_in_runs_watched`]
+/// is.
+///
+/// # Errors
+///
+/// Those of [`open_with`](crate::open_with) but [`Refusal::Padding`].
+///
+/// ```
+/// use balzenoh::{check_in_runs_watched, seal, Finish, Iv, Key, Refusal};
+/// use std::sync::atomic::{AtomicUsize, Ordering};
+///
+/// let key = Key::from([7; 16]);
+/// let sealed = seal(&key, &Iv::from([1; 16]), &[b'x'; 1_000])?;
+/// let checked = AtomicUsize::new(0);
+/// let done = |blocks| {
+///     checked.fetch_add(blocks, Ordering::Relaxed);
+/// };
+/// check_in_runs_watched(Finish::Cipher, &key, &sealed, 8, 2, done)?;
+/// assert_eq!(checked.into_inner(), 63);
+/// # Ok::<(), Refusal>(())
+/// ```
+pub fn check_in_runs_watched(
+    finish: Finish,
+    key: &Key,
+    sealed: &[u8],
+    runs: usize,
+    threads: usize,
+    done: impl Fn(usize) + Sync,
+) -> Result<(), Refusal> {
     let ciphertext = sealed.len().saturating_sub(around(finish));
     let blocks = ciphertext / BLOCK;
     if !ciphertext.is_multiple_of(BLOCK) || blocks == 0 || blocks > LIMIT {
@@ -121,7 +189,9 @@ pub fn check_in_runs_with(finish: Finish, key: &Key, sealed: &[u8], runs: usize,
     let tag = AnyTag::from_slice(&sealed[(blocks + 1) * BLOCK..])?;
     let ciphertext = &sealed[BLOCK..][..blocks * BLOCK];
     let records = share_out(&mut cut(blocks, runs), threads, |run| {
-        check_run(key, &iv, run.start as u32, &ciphertext[run.start * BLOCK..run.end * BLOCK])
+        let record = check_run(key, &iv, run.start as u32, &ciphertext[run.start * BLOCK..run.end * BLOCK])?;
+        done(run.len());
+        Ok(record)
     })?;
     test_with(finish, key, &iv, &join_list(&records)?, &tag)
 }

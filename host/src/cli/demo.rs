@@ -4,7 +4,7 @@ use std::fmt::Write;
 use std::sync::Mutex;
 use std::thread;
 
-use balzenoh::sizes::{padded_blocks, BLOCK, LIMIT};
+use balzenoh::sizes::{padded_blocks, BLOCK};
 use balzenoh::{close, join_list, jump, open, open_into, seal, seal_run, Iv, Key, Kind, Refusal, RunRecord};
 
 use super::args::Args;
@@ -153,26 +153,16 @@ fn run_left_out(story: &mut Story, key: &Key, iv: &Iv, sealed: &[u8], runs: &[Se
 
 /// A board that knows only the mask of its tail.
 fn tail_first(story: &mut Story) -> Result<(), Refusal> {
-    let (before, most) = (grouped(BEFORE_TAIL as usize), grouped(LIMIT));
+    let before = grouped(BEFORE_TAIL as usize);
     story.tell(
         "\nThe last of 1,000,000 blocks arrives first, and its board knows only the mask of it, here as the mode's paper has it:",
     );
-    story.tell(&format!("    {TAIL_MASK:032X}\nJumped back by the {before} blocks before it, at most {most} at a time:"));
-    let start = jumped(TAIL_MASK.to_be_bytes(), -BEFORE_TAIL)?;
+    story.tell(&format!("    {TAIL_MASK:032X}\nJumped back by the {before} blocks before it, at once:"));
+    let start = jump(&TAIL_MASK.to_be_bytes(), -BEFORE_TAIL)?;
     story.check(&format!("the paper's start mask, {START_MASK:032X}"), start == START_MASK.to_be_bytes());
     story.tell("Jumped forward again by as many:");
-    story.check("the mask of the last block", jumped(start, BEFORE_TAIL)? == TAIL_MASK.to_be_bytes());
+    story.check("the mask of the last block", jump(&start, BEFORE_TAIL)? == TAIL_MASK.to_be_bytes());
     Ok(())
-}
-
-/// A jump of any length, in jumps that the library takes.
-fn jumped(mut mask: [u8; BLOCK], mut left: i32) -> Result<[u8; BLOCK], Refusal> {
-    while left != 0 {
-        let distance = left.clamp(-(LIMIT as i32), LIMIT as i32);
-        mask = jump(&mask, distance)?;
-        left -= distance;
-    }
-    Ok(mask)
 }
 
 fn refused<T>(story: &mut Story, result: Result<T, Refusal>, expected: Refusal) {

@@ -9,7 +9,7 @@ use super::table::{self, Command, Opt, Value, COMMANDS, HELP, VERSION};
 pub const TITLE: &str = "seals and opens route lists (Cipher-State mode over AES-128 or AES-256, over a proved library)";
 
 /// What holds for all commands.
-pub const SECTIONS: [(&str, &str); 4] = [
+pub const SECTIONS: [(&str, &str); 5] = [
     (
         "VALUES",
         "A key, IV, tag, mask or record is given as hexadecimal digits, or as @FILE; @- is standard input. The file holds the \
@@ -33,6 +33,12 @@ pub const SECTIONS: [(&str, &str); 4] = [
          not at all. One that takes the place of an earlier file keeps its mode; a new record can be read by its owner alone. \
          A link is followed, a device or pipe is written and stays. The answer is never written over one of the inputs, by \
          whatever name: such a command line is wrong.",
+    ),
+    (
+        "LONG LISTS",
+        "A list has up to 1,048,576 blocks of 16 bytes. What is sealed, opened or checked is held in memory, as is the answer, once \
+         each. Where runs are sealed or checked for more than half a second, and standard error is a terminal, a bar shows there how \
+         far it is, and is wiped away at the end. Programs that know the earlier limit of 4,000 blocks refuse a longer list, with 3.",
     ),
     (
         "FAILURES",

@@ -1,7 +1,6 @@
 //! The commands: finding the one that is meant, running it, and answering for a failure.
 
 mod args;
-mod check;
 mod completions;
 mod demo;
 mod destination;
@@ -15,6 +14,7 @@ mod input;
 mod man;
 mod names;
 mod output;
+mod progress;
 mod record;
 mod replace;
 mod run;

@@ -57,8 +57,11 @@ impl Source {
     }
 }
 
-fn read_bounded(reader: impl Read, most: usize) -> io::Result<Vec<u8>> {
-    let mut bytes = Vec::new();
-    reader.take(most as u64 + 1).read_to_end(&mut bytes)?;
+/// Where it is known how much there is, room is made for that at once, and for no more.
+fn read_bounded(file: File, most: usize) -> io::Result<Vec<u8>> {
+    let most = most as u64 + 1;
+    let known = file.metadata().map_or(0, |found| found.len().min(most));
+    let mut bytes = Vec::with_capacity(known as usize);
+    file.take(most).read_to_end(&mut bytes)?;
     Ok(bytes)
 }

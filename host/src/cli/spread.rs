@@ -1,14 +1,38 @@
 //! Over how many runs and threads a list is spread.
 
+use std::num::NonZero;
+use std::thread::available_parallelism;
+
 use super::args::Args;
 use super::table;
 
-/// The numbers of runs and threads, where one is given: the other is then the same, or one thread.
-pub fn spread(args: &Args) -> Option<(usize, usize)> {
-    let number = |name| args.number(name).map(|number| usize::try_from(number).unwrap_or(usize::MAX));
-    match (number(table::RUNS), number(table::THREADS)) {
-        (None, None) => None,
-        (Some(runs), threads) => Some((runs, threads.unwrap_or(1))),
-        (None, Some(threads)) => Some((threads, threads)),
+/// Where the runs are not counted by the user, none has more blocks than this.
+pub const LONGEST_RUN: usize = 2_048;
+
+/// The numbers of runs and threads.
+#[derive(Clone, Copy)]
+pub struct Spread {
+    pub runs: usize,
+    pub threads: usize,
+}
+
+impl Spread {
+    /// As the options have it, where one of them is given.
+    pub fn asked(args: &Args, blocks: usize) -> Option<Self> {
+        let number = |name| args.number(name).map(|number| usize::try_from(number).unwrap_or(usize::MAX));
+        match (number(table::RUNS), number(table::THREADS)) {
+            (None, None) => None,
+            (Some(runs), threads) => Some(Self { runs, threads: threads.unwrap_or(1) }),
+            (None, Some(threads)) => Some(Self { runs: threads.max(blocks.div_ceil(LONGEST_RUN)), threads }),
+        }
+    }
+
+    /// The same and, where no option is given, that of a list which has more blocks than a run: over all that this machine can do at
+    /// a time.
+    pub fn usual(args: &Args, blocks: usize) -> Option<Self> {
+        Self::asked(args, blocks).or_else(|| {
+            let threads = available_parallelism().map_or(1, NonZero::get);
+            (blocks > LONGEST_RUN).then(|| Self { runs: blocks.div_ceil(LONGEST_RUN), threads })
+        })
     }
 }

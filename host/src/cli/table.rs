@@ -3,7 +3,7 @@
 use super::args::Args;
 use super::failure::Failure;
 use super::output::Outputs;
-use super::{check, completions, demo, digest, finish, help, man, record, run, whole};
+use super::{completions, demo, digest, finish, help, man, record, run, whole};
 
 /// What an option takes after its name.
 pub enum Value {
@@ -110,6 +110,10 @@ const MOST_THREADS: i64 = 256;
 const SIXTEEN: &str = "32 hexadecimal digits, or @FILE";
 const TO_SEAL: &str = "how the tag is made: cipher (16 bytes, the usual one) or sha1 (20 bytes)";
 const AS_SEALED: &str = "how the tag was made: cipher (16 bytes, the usual one) or sha1 (20 bytes)";
+const SEAL_ON_THREADS: &str =
+    "seal the runs on M threads (1 to 256); without --runs there are at least M, of 2,048 blocks at most";
+const CHECK_ON_THREADS: &str =
+    "check the runs on M threads (1 to 256); without --runs there are at least M, of 2,048 blocks at most";
 const SIXTEEN_OR_32: &str = "32 or 64 hexadecimal digits, or @FILE";
 
 const fn needed(long: &'static str, value: Value, text: &'static str) -> Opt {
@@ -169,12 +173,13 @@ pub static COMMANDS: [Command; 14] = [
         name: "seal",
         summary: "seal a list",
         text: "Seals a list of up to 16,777,215 bytes. The answer is the IV, the ciphertext and the tag. An IV must not be \
-               used twice under one key.",
+               used twice under one key. A list of more than 2,048 blocks of 16 bytes is cut into runs of so many at most, on as \
+               many threads as the machine runs at a time, unless the options say otherwise.",
         options: &[
             key(),
             iv(SIXTEEN),
             runs("cut the list into N runs, seal each by itself, and join: the same bytes"),
-            threads("seal the runs on M threads (1 to 256); without --runs there are M runs"),
+            threads(SEAL_ON_THREADS),
             finish(TO_SEAL),
             output("where the sealed list goes"),
         ],
@@ -189,8 +194,16 @@ pub static COMMANDS: [Command; 14] = [
     Command {
         name: "open",
         summary: "open a sealed list",
-        text: "Opens a sealed list. Nothing of a list that is not as it was sealed is written.",
-        options: &[key(), finish(AS_SEALED), output("where the list goes")],
+        text: "Opens a sealed list. Nothing of a list that is not as it was sealed is written. A list is opened in one piece. \
+               With --runs or --threads its tag is first tested over the runs, on the threads, so that a list which is not as it \
+               was sealed is refused sooner; the others take longer by that.",
+        options: &[
+            key(),
+            runs("cut the list into N runs, and test the tag over them before opening: the same answer"),
+            threads(CHECK_ON_THREADS),
+            finish(AS_SEALED),
+            output("where the list goes"),
+        ],
         operand: Operand::Input,
         binary: false,
         examples: &[
@@ -202,19 +215,20 @@ pub static COMMANDS: [Command; 14] = [
     Command {
         name: "check",
         summary: "see whether a sealed list opens, and write nothing of it",
-        text: "Checks a sealed list: prints `passes` where open would give the list, or refuses as open would. The runs are \
-               checked on the threads and joined, the tag is tested, and then the list is opened into an output of no bytes, \
-               which shows whether it ends as it must. Nothing of the list is written.",
+        text: "Checks a sealed list: prints `passes` where open would give the list, or refuses as open would. The list is \
+               opened into an output of no bytes. One of more than 2,048 blocks of 16 bytes, or with --runs or --threads, is first \
+               cut into runs, as in sealing; they are checked on the threads and joined, and the tag is tested. Nothing of the \
+               list is written.",
         options: &[
             key(),
             runs("cut the list into N runs and check each by itself: the same answer"),
-            threads("check the runs on M threads (1 to 256); without --runs there are M runs"),
+            threads(CHECK_ON_THREADS),
             finish(AS_SEALED),
         ],
         operand: Operand::Input,
         binary: false,
         examples: &["balzenoh check --key @key routes.sealed"],
-        work: check::check,
+        work: whole::check,
     },
     Command {
         name: "seal-run",

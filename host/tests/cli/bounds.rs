@@ -33,22 +33,22 @@ fn the_bounds_are_those_of_the_library() {
     let folder = Folder::new("bounds");
     let run = ["--key", KEY, "--iv", IV, "--first", "0"];
     let expected: [(i32, usize, &[&str]); 9] = [
-        (0, 64_000, &["seal-run"]),
-        (3, 64_001, &["seal-run"]),
-        (4, 64_016, &["seal-run"]),
-        (0, 63_999, &["seal-run", "--last"]),
-        (4, 64_000, &["seal-run", "--last"]),
-        (4, 64_001, &["seal-run", "--last"]),
-        (0, 64_000, &["check-run"]),
-        (3, 64_015, &["check-run"]),
-        (4, 64_016, &["check-run"]),
+        (0, 16_777_216, &["seal-run"]),
+        (3, 16_777_217, &["seal-run"]),
+        (4, 16_777_232, &["seal-run"]),
+        (0, 16_777_215, &["seal-run", "--last"]),
+        (4, 16_777_216, &["seal-run", "--last"]),
+        (4, 16_777_217, &["seal-run", "--last"]),
+        (0, 16_777_216, &["check-run"]),
+        (3, 16_777_231, &["check-run"]),
+        (4, 16_777_232, &["check-run"]),
     ];
     for (status, length, command) in expected {
         folder.feed(&[command, &run].concat(), &vec![0; length]).exits(status);
     }
-    folder.feed(&["open", "--key", KEY], &vec![0; 64_032]).exits(6);
-    folder.feed(&["open", "--key", KEY], &vec![0; 64_033]).exits(3);
-    folder.feed(&["open", "--key", KEY], &vec![0; 64_048]).exits(3);
+    folder.feed(&["open", "--key", KEY], &vec![0; 16_777_248]).exits(6);
+    folder.feed(&["open", "--key", KEY], &vec![0; 16_777_249]).exits(3);
+    folder.feed(&["open", "--key", KEY], &vec![0; 16_777_264]).exits(3);
 }
 
 #[test]

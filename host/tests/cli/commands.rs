@@ -111,7 +111,7 @@ fn a_refusal_leaves_nothing_behind() {
     // So with both files of a run, and where the input cannot be read.
     folder.write("run", b"yesterday");
     folder.write("rec", b"yesterday");
-    folder.feed(&["seal-run", "--key", KEY, "--iv", IV, "--first", "4000", "-o", "run", "--record", "rec"], &[0; 16]).exits(4);
+    folder.feed(&["seal-run", "--key", KEY, "--iv", IV, "--first", "1048576", "-o", "run", "--record", "rec"], &[0; 16]).exits(4);
     assert_eq!(folder.names(), ["sealed"]);
     folder.write("list", b"the list of yesterday");
     folder.run(&["open", "--key", KEY, "missing", "-o", "list"]).exits(74);
@@ -144,7 +144,7 @@ fn wrong_lengths_get_the_librarys_numbers() {
         (1, &["open", "--key", ""]),
         (3, &["open", "--key", KEY]),
         (1, &["seal-run", "--key", short, "--iv", IV, "--first", "0"]),
-        (4, &["seal-run", "--key", KEY, "--iv", IV, "--first", "4001"]),
+        (4, &["seal-run", "--key", KEY, "--iv", IV, "--first", "1048577"]),
         (2, &["check-run", "--key", KEY, "--iv", short, "--first", "0"]),
         (4, &["check-run", "--key", KEY, "--iv", IV, "--first", "4294967295"]),
         (24, &["join", &record, short]),
@@ -152,13 +152,13 @@ fn wrong_lengths_get_the_librarys_numbers() {
         (24, &["close", "--key", short, "--iv", short, short]),
         (1, &["close", "--key", short, "--iv", short, &record]),
         (3, &["test", "--key", KEY, "--iv", IV, "--tag", short, &record]),
-        (3, &["jump", "--mask", short, "--distance", "5000"]),
+        (3, &["jump", "--mask", short, "--distance", "2000000"]),
     ];
     for (number, arguments) in expected {
         folder.feed(arguments, b"").exits(i32::from(number)).prints(b"");
     }
-    folder.feed(&["seal", "--key", KEY, "--iv", IV], &vec![0; 64_000]).exits(3);
-    folder.feed(&["seal", "--key", KEY, "--iv", IV], &vec![0; 63_999]).exits(0);
+    folder.feed(&["seal", "--key", KEY, "--iv", IV], &vec![0; 16_777_216]).exits(3);
+    folder.feed(&["seal", "--key", KEY, "--iv", IV], &vec![0; 16_777_215]).exits(0);
     folder.feed(&["seal-run", "--key", KEY, "--iv", IV, "--first", "0"], &[0; 15]).exits(3);
     folder.feed(&["check-run", "--key", KEY, "--iv", IV, "--first", "0"], &[0; 15]).exits(3);
     // Row 7's example.
@@ -182,7 +182,7 @@ fn masks_jump() {
         let joined = format!("--distance={distance}");
         folder.run(&["jump", &joined, "--mask", one]).exits(0).prints(format!("{printed}\n").as_bytes());
     }
-    for distance in ["4000", "1234", "-1", "-4000"] {
+    for distance in ["1048576", "4001", "-1", "-1048576"] {
         let there = jump(distance).exits(0).text();
         let opposite = (-distance.parse::<i32>().expect("a number")).to_string();
         folder.run(&["jump", "--distance", &opposite, "--mask", there.trim()]).exits(0).prints(format!("{one}\n").as_bytes());
@@ -193,7 +193,7 @@ fn masks_jump() {
 #[test]
 fn masks_jump_no_further_than_the_limit() {
     let folder = Folder::new("far");
-    for number in ["4001", "2147483647", "2147483648", "4294967297", "18446744073709551617", "99999999999999999999999"] {
+    for number in ["1048577", "2147483647", "2147483648", "4294967297", "18446744073709551617", "99999999999999999999999"] {
         for distance in [number.to_string(), format!("-{number}")] {
             folder.run(&["jump", "--mask", IV, "--distance", &distance]).exits(4).prints(b"");
         }
@@ -204,7 +204,8 @@ fn masks_jump_no_further_than_the_limit() {
 #[test]
 fn a_distance_is_a_number() {
     let folder = Folder::new("distance");
-    for distance in ["", "-", "--", "--5", "- 5", "-5-", "+5", "-+5", "5.0", "-4,000", "0x5", "\u{2212}5", "\u{2013}5", "\u{665}"]
+    for distance in
+        ["", "-", "--", "--5", "- 5", "-5-", "+5", "-+5", "5.0", "-1,048,576", "0x5", "\u{2212}5", "\u{2013}5", "\u{665}"]
     {
         for arguments in [&["--distance", distance][..], &[&format!("--distance={distance}")]] {
             let line = [&["jump", "--mask", IV][..], arguments].concat();

@@ -28,7 +28,10 @@ fn bash_completes_commands_options_and_files() {
     assert_eq!(offered(&folder, "balzenoh --v"), ["--version"]);
     assert_eq!(offered(&folder, "balzenoh seal --r"), ["--runs"]);
     assert_eq!(offered(&folder, "balzenoh seal-run --l"), ["--last"]);
-    assert_eq!(offered(&folder, "balzenoh open --key @list -"), ["--finish", "--help", "--key", "--output", "-h", "-o"]);
+    assert_eq!(
+        offered(&folder, "balzenoh open --key @list -"),
+        ["--finish", "--help", "--key", "--output", "--runs", "--threads", "-h", "-o"]
+    );
     assert_eq!(offered(&folder, "balzenoh open li"), ["list", "list.sealed"]);
     assert_eq!(offered(&folder, "balzenoh open -o li"), ["list", "list.sealed"]);
     assert_eq!(offered(&folder, "balzenoh seal --runs l"), Vec::<String>::new());

@@ -15,8 +15,8 @@ const TAGS: [(&str, &str); 2] =
     [("cipher", "CBBD199D075F7220957FD8205A233B9F"), ("sha1", "ECFA375F615DB07834F50C7B9C3B08A9C9D3F12F")];
 
 /// What is said of the length of a sealed list.
-const SEALED_CIPHER: &str = "a sealed list has 48 to 64,032, a multiple of 16";
-const SEALED_HASH: &str = "a sealed list with --finish sha1 has 52 to 64,036, 36 over a multiple of 16";
+const SEALED_CIPHER: &str = "a sealed list has 48 to 16,777,248, a multiple of 16";
+const SEALED_HASH: &str = "a sealed list with --finish sha1 has 52 to 16,777,252, 36 over a multiple of 16";
 
 /// The list as the mode seals it.
 fn sealed(finish: Finish, key: &str, list: &[u8]) -> Vec<u8> {
@@ -72,15 +72,15 @@ fn the_other_finish_is_told() {
     let folder = Folder::new("finish-other");
     folder.write("16", &sealed(Finish::Cipher, KEY, LIST));
     folder.write("20", &sealed(Finish::Sha1, KEY, LIST));
-    folder.write("longest", &sealed(Finish::Sha1, KEY, &[0; 63_999]));
+    folder.write("longest", &sealed(Finish::Sha1, KEY, &vec![0; 16_777_215]));
     let (cipher, hash) = ("it could be one with --finish cipher", "it could be one with --finish sha1");
     let lines = [
         ("open --key $K 20", format!("refusal 3: 20 has 68 bytes, and {SEALED_CIPHER}; {hash}.")),
         ("check --key $K 20", format!("refusal 3: 20 has 68 bytes, and {SEALED_CIPHER}; {hash}.")),
-        ("open --key $K longest", format!("refusal 3: longest has more than 64,032 bytes, and {SEALED_CIPHER}; {hash}.")),
+        ("open --key $K longest", format!("refusal 3: longest has more than 16,777,248 bytes, and {SEALED_CIPHER}; {hash}.")),
         ("open --key $K --finish sha1 16", format!("refusal 3: 16 has 64 bytes, and {SEALED_HASH}; {cipher}.")),
         ("check --key $K --finish sha1 /dev/null", format!("has 0 bytes, and {SEALED_HASH}.")),
-        ("open --key $K --finish sha1 /dev/zero", format!("has more than 64,036 bytes, and {SEALED_HASH}.")),
+        ("open --key $K --finish sha1 /dev/zero", format!("has more than 16,777,252 bytes, and {SEALED_HASH}.")),
         ("test --finish sha1 --tag $I", "--tag has 16 bytes, and a tag with --finish sha1 has 20.".to_string()),
         ("test --tag ${I}01234567", "--tag has 20 bytes, and a tag has 16.".to_string()),
         ("test --finish sha1 --tag 012", "--tag has 3 hexadecimal digits, and a tag with --finish sha1 has 40.".to_string()),
@@ -100,12 +100,14 @@ fn the_other_finish_is_told() {
 fn the_bounds_are_those_of_the_library() {
     let folder = Folder::new("finish-bounds");
     let open = ["open", "--key", KEY, "--finish", "sha1"];
-    for (status, length) in [(3, 51), (6, 52), (3, 53), (3, 64_032), (6, 64_036), (3, 64_037), (3, 64_052)] {
+    for (status, length) in
+        [(3, 51), (6, 52), (3, 53), (6, 64_052), (3, 16_777_248), (6, 16_777_252), (3, 16_777_253), (3, 16_777_268)]
+    {
         folder.feed(&open, &vec![0; length]).exits(status).prints(b"");
     }
     let seal = ["seal", "--key", KEY, "--iv", IV, "--finish", "sha1"];
-    assert_eq!(folder.feed(&seal, &[0; 63_999]).exits(0).stdout.len(), 64_036);
-    folder.feed(&seal, &[0; 64_000]).exits(3).prints(b"");
+    assert_eq!(folder.feed(&seal, &vec![0; 16_777_215]).exits(0).stdout.len(), 16_777_252);
+    folder.feed(&seal, &vec![0; 16_777_216]).exits(3).prints(b"");
 }
 
 #[test]

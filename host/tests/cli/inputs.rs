@@ -11,7 +11,7 @@ fn filled(name: &str) -> (Folder, Vec<(&'static str, Vec<u8>)>) {
     folder.write("list", b"parcel 1 -> cage 2\n");
     folder.write("key", &digits(KEY));
     folder.write("wrong", &[9; 16]);
-    folder.write("long", &[b'x'; 64_000]);
+    folder.write("long", &[b'x'; 200]);
     folder.shell("$B seal --key $K --iv $I list > sealed").exits(0);
     std::fs::hard_link(folder.path().join("sealed"), folder.path().join("hard")).expect("a link");
     symlink("sealed", folder.path().join("soft")).expect("a link");

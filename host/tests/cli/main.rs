@@ -7,6 +7,7 @@ mod finish;
 mod inputs;
 mod key_lengths;
 mod left_behind;
+mod long_lists;
 mod manual;
 mod messages;
 mod modes;

@@ -12,7 +12,7 @@ fn a_refusal_says_which_value_is_wrong() {
     folder.write("key", &[0; 17]);
     folder.write("24", &[0; 24]);
     folder.write("odd", format!("{}\n", &KEY[1..]).as_bytes());
-    folder.write("many", &[b'x'; 70_000]);
+    folder.write("many", &vec![b'x'; 16_777_300]);
     folder.write("run", &[0; 20]);
     let lines = [
         ("seal --key $K --iv ${I:2} run", "refusal 2: --iv has 15 bytes, and an IV has 16"),
@@ -25,31 +25,37 @@ fn a_refusal_says_which_value_is_wrong() {
         ("seal --key @key --iv $I run", "refusal 1: --key @key has 17 bytes, and a key has 16 or 32"),
         ("seal --key @odd --iv $I run", "refusal 1: --key @odd has 31 hexadecimal digits, and a key has 32 or 64"),
         ("seal --key @many --iv $I run", "refusal 1: --key @many has more than 256 bytes, and a key has 16 or 32"),
-        ("seal --key $K --iv $I many", "refusal 3: many has more than 63,999 bytes"),
-        ("seal --key $K --iv $I < many", "refusal 3: standard input has more than 63,999 bytes"),
-        ("open --key $K run", "refusal 3: run has 20 bytes, and a sealed list has 48 to 64,032, a multiple of 16"),
-        ("open --key $K many", "refusal 3: many has more than 64,032 bytes"),
+        ("seal --key $K --iv $I many", "refusal 3: many has more than 16,777,215 bytes"),
+        ("seal --key $K --iv $I < many", "refusal 3: standard input has more than 16,777,215 bytes"),
+        ("open --key $K run", "refusal 3: run has 20 bytes, and a sealed list has 48 to 16,777,248, a multiple of 16"),
+        ("open --key $K many", "refusal 3: many has more than 16,777,248 bytes"),
         (
             "seal-run --key $K --iv $I --first 0 run",
             "refusal 3: run has 20 bytes, and a run that is not the last has a multiple of 16",
         ),
         ("check-run --key $K --iv $I --first 0 run", "refusal 3: run has 20 bytes, and a run of ciphertext has a multiple of 16"),
-        ("seal-run --key $K --iv $I --first 3999 --last run", "refusal 4: run has 2 blocks and --first is 3999"),
+        ("seal-run --key $K --iv $I --first 1048575 --last run", "refusal 4: run has 2 blocks and --first is 1048575"),
         ("seal-run --key $K --iv $I --first 99999999999 --last run", "--first is 99999999999"),
-        ("jump --mask $I --distance 4001", "refusal 4: --distance is 4001, and a mask jumps by -4,000 to 4,000 blocks."),
-        ("jump --mask $I --distance -4001", "refusal 4: --distance is -4001, and a mask jumps by -4,000 to 4,000 blocks."),
+        (
+            "jump --mask $I --distance 1048577",
+            "refusal 4: --distance is 1048577, and a mask jumps by -1,048,576 to 1,048,576 blocks.",
+        ),
+        ("jump --mask $I --distance -1048577", "refusal 4: --distance is -1048577, and a mask jumps by -1,048,576 to 1,048,576"),
         ("jump --mask $I --distance=-2147483648", "refusal 4: --distance is -2147483648, and a mask jumps"),
         ("jump --mask $I --distance 4294967296", "refusal 4: --distance is 4294967296, and a mask jumps"),
         ("jump --mask $I --distance -9223372036854775808", "refusal 4: --distance is -9223372036854775808, and"),
         ("jump --mask $I --distance -99999999999999999999", "refusal 4: --distance has 21 characters, and a mask jumps"),
-        ("jump --mask 00 --distance -4001", "refusal 3: --mask has 1 byte, and a mask has 16"),
+        ("jump --mask 00 --distance -1048577", "refusal 3: --mask has 1 byte, and a mask has 16"),
         ("jump --mask 00 --distance 1", "refusal 3: --mask has 1 byte, and a mask has 16"),
         ("test --key $K --iv $I --tag 0000 $I$I", "refusal 24: RECORD has 32 bytes, and a record has 24"),
         ("test --key $K --iv $I --tag 0000 0000000000000001$I", "refusal 3: --tag has 2 bytes, and a tag has 16"),
         ("join $I 0000000000000001$I", "refusal 24: RECORD 1 has 16 bytes, and a record has 24"),
         ("join 0000000000000001$I @run", "refusal 24: RECORD 2 @run has 20 bytes"),
-        ("close --key $K --iv $I 0000000000001000$I", "refusal 4: RECORD has 4096 blocks from block 0 on"),
-        ("join 0000000000000001$I 00000F9F00000002$I", "refusal 4: RECORD 2 has 2 blocks from block 3999 on"),
+        (
+            "close --key $K --iv $I 0000000000100001$I",
+            "refusal 4: RECORD has 1048577 blocks from block 0 on, and a list has 1,048,576 at most",
+        ),
+        ("join 0000000000000001$I 000FFFFF00000002$I", "refusal 4: RECORD 2 has 2 blocks from block 1048575 on"),
         ("join 0000000000000001$I 0000000200000002$I", "Look at the order of the records"),
     ];
     for (line, message) in lines {

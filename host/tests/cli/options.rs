@@ -35,7 +35,7 @@ fn names_may_be_as_long_as_names_are() {
 }
 
 #[test]
-fn check_answers_as_open_does() {
+fn check_and_open_answer_alike_over_any_runs() {
     let folder = Folder::new("check");
     let list: Vec<u8> = (0..9_000).map(|at| at as u8).collect();
     let [sealed, empty] = [&list[..], b""].map(|list| folder.feed(&["seal", "--key", KEY, "--iv", IV], list).exits(0).stdout);
@@ -49,6 +49,12 @@ fn check_answers_as_open_does() {
         folder.feed(&check, &damaged).exits(6).prints(b"");
         folder.feed(&check, &unpadded).exits(7).prints(b"");
         folder.feed(&check, &sealed[..47]).exits(3).prints(b"");
+        let open = [&["open", "--key", KEY][..], spread].concat();
+        folder.feed(&open, &sealed).exits(0).prints(&list);
+        folder.feed(&open, &empty).exits(0).prints(b"");
+        folder.feed(&open, &damaged).exits(6).prints(b"");
+        folder.feed(&open, &unpadded).exits(7).prints(b"");
+        folder.feed(&open, &sealed[..47]).exits(3).prints(b"");
     }
     folder.feed(&["check", "--key", "00"], &sealed[..47]).exits(1).prints(b"");
     folder.feed(&["check", "--key", IV], &sealed).exits(6).prints(b"");

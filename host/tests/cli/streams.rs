@@ -1,7 +1,5 @@
 //! Standard streams, terminals and devices.
 
-use std::process::Command;
-
 use crate::program::Folder;
 
 fn filled(name: &str) -> Folder {
@@ -71,30 +69,21 @@ fn two_answers_do_not_share_a_stream() {
     assert_eq!(folder.shell(&format!("{run} -o run 2>&1")).exits(0).stdout, record);
 }
 
-/// Runs a line of shell with a terminal as its standard output, where there is a program for that.
-fn on_a_terminal(folder: &Folder, line: &str) -> Option<crate::program::Run> {
-    if Command::new("script").arg("--version").output().is_err() {
-        eprintln!("left out: there is no program `script`");
-        return None;
-    }
-    Some(folder.shell(&format!("script -qec '{line} 2>messages' typescript < /dev/null")))
-}
-
 #[test]
 fn a_terminal_gets_no_binary() {
     let folder = filled("terminal");
     let run = "seal-run --key $K --iv $I --first 0 --last list --record rec";
     let lines = ["seal --key $K --iv $I list", run, "open --key $K sealed-noise"];
     for line in lines {
-        let Some(run) = on_a_terminal(&folder, &format!("$B {line}")) else { return };
+        let Some(run) = folder.on_a_terminal(&format!("$B {line} 2>messages")) else { return };
         run.exits(64).prints(b"");
         let messages = String::from_utf8(folder.read("messages").expect("messages")).expect("text");
         assert!(messages.contains("terminal") && messages.contains("-o -"), "{messages}");
         assert!(folder.read("rec").is_none());
     }
     for line in lines {
-        on_a_terminal(&folder, &format!("$B {line} -o -")).expect("a terminal").exits(0);
+        folder.on_a_terminal(&format!("$B {line} -o - 2>messages")).expect("a terminal").exits(0);
     }
-    let text = on_a_terminal(&folder, "$B open --key $K sealed").expect("a terminal").exits(0);
+    let text = folder.on_a_terminal("$B open --key $K sealed 2>messages").expect("a terminal").exits(0);
     assert!(text.text().contains("parcel 1 -> cage 2"));
 }

@@ -35,11 +35,12 @@ fn every_command_refuses(folder: &Folder) {
         format!("seal {under} list -o old"),
         format!("seal {under} --runs 3 --threads 2 list -o old"),
         "open --key @key sealed -o old".to_string(),
+        "open --key @key --threads 2 sealed -o old".to_string(),
         "check --key @key sealed".to_string(),
         "check --key @key --runs 2 --threads 2 sealed".to_string(),
         format!("seal-run {under} --first 0 empty -o old --record old.rec"),
         format!("seal-run {under} --first 7 --last list -o old --record old.rec"),
-        format!("check-run {under} --first 4000 empty --record old.rec"),
+        format!("check-run {under} --first 1048576 empty --record old.rec"),
         format!("check-run {under} --first 7 sealed --record old.rec"),
         format!("close {under} {RECORD} -o old"),
         format!("test {under} --tag {IV} {RECORD}"),
@@ -64,15 +65,15 @@ fn every_command_refuses(folder: &Folder) {
 #[test]
 fn what_else_is_wrong_comes_before_it() {
     let folder = commissioned("before-it", NO_KEYS[1]);
-    folder.write("long", &[0; 64_000]);
+    folder.write("long", &vec![0; 16_777_216]);
     let under = "--key @key --iv @iv";
     let lines = [
         (3, format!("seal {under} long")),
         (3, format!("seal {under} --runs 2 long")),
         (3, "open --key @key iv".to_string()),
         (3, format!("seal-run {under} --first 0 list")),
-        (4, format!("seal-run {under} --first 4000 --last list")),
-        (4, format!("check-run {under} --first 4001 empty")),
+        (4, format!("seal-run {under} --first 1048576 --last list")),
+        (4, format!("check-run {under} --first 1048577 empty")),
         (9, format!("close {under} 00000001{}", &RECORD[8..])),
         (3, format!("test {under} --tag 00 {RECORD}")),
         (24, format!("test {under} --tag {IV} 00")),

@@ -80,6 +80,32 @@ impl Folder {
         self.finish(Command::new("bash").arg("-c").arg(line).envs(values), b"")
     }
 
+    /// Runs a line of shell with a terminal as its standard streams, where there is a program for that. What the terminal is told is
+    /// on standard output.
+    pub fn on_a_terminal(&self, line: &str) -> Option<Run> {
+        if Command::new("script").arg("--version").output().is_err() {
+            eprintln!("left out: there is no program `script`");
+            return None;
+        }
+        Some(self.shell(&format!("script -qec '{line}' typescript < /dev/null")))
+    }
+
+    /// Runs the program, and gives the most memory that it held at a time, in bytes.
+    pub fn peak_memory(&self, arguments: &[&str]) -> usize {
+        let mut child =
+            Command::new(PROGRAM).args(arguments).current_dir(&self.0).stdout(Stdio::null()).spawn().expect("the program starts");
+        let (status, mut peak) = (format!("/proc/{}/status", child.id()), 0);
+        loop {
+            let held = fs::read_to_string(&status).unwrap_or_default();
+            let line = held.lines().find_map(|line| line.strip_prefix("VmHWM:")).unwrap_or_default();
+            peak = peak.max(line.trim().trim_end_matches(" kB").parse().unwrap_or(0));
+            if let Some(status) = child.try_wait().expect("the program ends") {
+                assert!(status.success(), "{arguments:?}");
+                return 1_024 * peak;
+            }
+        }
+    }
+
     /// Runs the program as a user to whom the modes of files apply, where such a one can run it.
     pub fn run_unprivileged(&self, arguments: &[&str]) -> Option<Run> {
         if self.unprivileged().arg("--version").stdout(Stdio::null()).status().is_err() {
