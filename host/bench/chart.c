@@ -1,4 +1,4 @@
-/* The chart: a plain SVG of the rates on the longest list, a group of bars for each piece of work. */
+/* The chart: a plain SVG of the rates on 64,000 bytes, a group of bars for each piece of work. */
 #include "report.h"
 
 #include <stdio.h>

@@ -18,8 +18,8 @@ enum { LONG, SHORT, SIZES };
 enum { OURS, PLAIN, PLAIN_SCALAR, FIVE, FIVE_SCALAR, HASHES };
 enum { SEAL, OPEN, TASKS };
 
-static uint8_t list_key[16], list_iv[16], text[LONG_TEXT], out[BALZENOH_LONGEST_SEALED_SHA1], run[BALZENOH_RUN_RECORD];
-static uint8_t sealed[FINISHES][SIZES][BALZENOH_LONGEST_SEALED_SHA1];
+static uint8_t list_key[16], list_iv[16], text[LONG_TEXT], out[LONG_TEXT + 36], run[BALZENOH_RUN_RECORD];
+static uint8_t sealed[FINISHES][SIZES][LONG_TEXT + 36];
 static size_t length;
 
 static const size_t text_lengths[SIZES] = {LONG_TEXT, SHORT_TEXT}, blocks_of[SIZES] = {LONG_LIST, SHORT_LIST};

@@ -24,7 +24,7 @@ static const char *const names[TASKS] = {"before", "now", "now, lent the message
 static double best[FINISHES][TASKS][SIZES];
 
 /* The records are genuine, or have a wrong tag. */
-typedef uint8_t records[FINISHES][SIZES][BALZENOH_LONGEST_SEALED_SHA1];
+typedef uint8_t records[FINISHES][SIZES][16 * LONG_LIST + 36];
 static records sealed, damaged;
 static uint8_t list_key[16], list_iv[16], list[16 * LONG_LIST], out[16 * LONG_LIST];
 

@@ -16,13 +16,22 @@ compile() { # OBJECT SOURCE FLAGS...
 }
 
 # The number of rounds, which is the script's only argument, if any.
+usual_rounds=600
 read_rounds() { # ARGUMENTS...
     [ $# -le 1 ] || { usage >&2 && exit 64; }
-    case ${1-600} in
+    case ${1-$usual_rounds} in
     --help) usage && exit ;;
     '' | *[!0-9]* | 0*) usage >&2 && exit 64 ;;
-    *) rounds=${1-600} ;;
+    *) rounds=${1-$usual_rounds} ;;
     esac
+}
+
+# The same mode in C, three times.
+no_slp='-fno-tree-slp-vectorize'
+compile_contestants() {
+    compile bytes_o3 bytes -DCONTESTANT=bytes_o3
+    compile bytes_no_slp bytes -DCONTESTANT=bytes_no_slp $no_slp
+    compile words words -DCONTESTANT=words
 }
 
 # Archives as one object, with the build's number in front of the names that they export; `names` has the flags by which C calls them so.
@@ -48,4 +57,10 @@ find_archives() {
 }
 
 print_machine() { echo "CPU       $(sed -n 's/^model name[^:]*: //p' /proc/cpuinfo | head -n 1), $(nproc) processors"; }
+print_contestants() {
+    echo "Balzenoh  libbalzenoh.a, the proved library; its engine alone, libaes_blocks.a, for bare AES; $library"
+    echo "bytes     the mode in C with two tables of 256 bytes; $(gcc --version | head -n 1), ${flags%% -W*}"
+    echo "no SLP    the same with $no_slp"
+    echo "32-bit    the mode in C with 32-bit tables, ${flags%% -W*}"
+}
 print_compiler() { echo "Program   $(gcc --version | head -n 1), ${flags%% -W*}, around the archives' calls"; }

@@ -107,7 +107,7 @@ void print_table(const struct figures *f) {
     print_masks(f);
     print_joins(f);
     print_one_join(f);
-    printf("the longest list in two runs, us a list%14s%12s%10s\n", "one thread", "two", "ratio");
+    printf("64000 bytes in two runs, us a list%19s%12s%10s\n", "one thread", "two", "ratio");
     print_threads("one list, with the second thread's start", f->one_thread, f->two_threads, 1);
     print_threads("eight lists in turn, with its start", f->one_thread_lists, f->two_threads_lists, LISTS);
     print_threads("one list, second thread waiting", f->one_thread, f->with_helper, 1);

@@ -1,4 +1,4 @@
-/* The longest list sealed in two runs of 2,000 blocks, on one thread or on two, the calling thread being one of them. */
+/* A list of 4,000 blocks sealed in two runs of 2,000, on one thread or on two, the calling thread being one of them. */
 #include "balzenoh.h"
 #include "work.h"
 

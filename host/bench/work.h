@@ -34,10 +34,10 @@ enum { EQUAL_4, EQUAL_1, IN_TURN, EQUAL_200, EQUAL_500, LIST_SHAPES, TWO_OF_4 = 
 enum { MOST_RECORDS = 1000 };
 extern const struct shape shapes[SHAPES];
 
-/* So many longest lists sealed in two runs each, by one thread or by two; `who` is not used. */
+/* So many long lists sealed in two runs each, by one thread or by two; `who` is not used. */
 work seal_on_one_thread, seal_on_two_threads;
 
-/* One longest list sealed in two runs, with a second thread that runs from start_helper to stop_helper and waits for work. */
+/* One long list sealed in two runs, with a second thread that runs from start_helper to stop_helper and waits for work. */
 work seal_with_helper;
 void start_helper(void);
 void stop_helper(void);

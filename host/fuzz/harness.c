@@ -78,7 +78,7 @@ static void open_buffer(draw *d, enum finish by, size_t len, size_t message_len)
 static void call_open(draw *d) {
     static uint8_t text[LONGEST];
     enum finish by = draw_finish(d);
-    size_t len = draw_length(d), blocks = len / 16 + 1, sealed = 16 * blocks + reference_around(by);
+    size_t len = draw_rarely(d, 48) ? draw_long_length(d) : draw_length(d), blocks = len / 16 + 1, sealed = 16 * blocks + reference_around(by);
     memset(text, 0, 16 * blocks);
     memcpy(text, message, len);
     text[len] = 0x80;
@@ -180,8 +180,9 @@ static uint32_t draw_count(draw *d, uint32_t first) {
     case 15:
         return draw_number(d);
     case 14:
-        return left + draw_below(d, 2);
     case 13:
+        return left + draw_below(d, 2);
+    case 12:
         return draw_below(d, left + 1);
     default:
         return draw_below(d, 20) % (left + 1);

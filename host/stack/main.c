@@ -1,5 +1,5 @@
-/* Prints the stack that each call was seen to use: the deepest over lists of 1 to 4,000 blocks, under a key and under a key of zeros, whose start
-   mask is looked at before all work, each of 16 bytes and of 32. */
+/* Prints the stack that each call was seen to use: the deepest over lists of 1 to 4,000 blocks and of 1,048,576, under a key and under a key of
+   zeros, whose start mask is looked at before all work, each of 16 bytes and of 32. */
 #include "balzenoh.h"
 #include "paint.h"
 
@@ -15,12 +15,18 @@ static uint8_t message[BALZENOH_LONGEST_MESSAGE], sealed[BALZENOH_LONGEST_SEALED
 static uint8_t records[3][BALZENOH_RUN_RECORD], run[BALZENOH_RUN_RECORD], tag[BALZENOH_TAG], tag_sha1[BALZENOH_TAG_SHA1], mask[16] = {7, 8, 9};
 static uint8_t answer;
 static size_t length;
-/* The number of blocks: of the list, of the run at its end, of the right record, of the jump; of 16 bytes, less one, of the text for SHA-1. */
+/* The number of blocks: of the list, of the run at its end, of the right record, of the jump; of 16 bytes, less one, of the text for SHA-1,
+   as far as it takes that. */
 static uint32_t blocks;
 
-/* Calls that are not the measured one give what it works on: the record of blocks `first` to `end`, and the sealed list. */
-static void check_part(uint32_t first, uint32_t end, uint8_t *record) {
-    answer |= balzenoh_check_run(key, key_length, iv, 16, first, sealed + 16, 16 * (size_t)(end - first), record, BALZENOH_RUN_RECORD);
+/* What a call works on is made before it is measured. A record of blocks `first` to `end`, with any pre-authenticator: */
+static void make_record(uint32_t first, uint32_t end, uint8_t *record) {
+    for (int i = 0; i < 4; i++) {
+        record[i] = (uint8_t)(first >> (24 - 8 * i));
+        record[4 + i] = (uint8_t)((end - first) >> (24 - 8 * i));
+    }
+    for (int i = 8; i < BALZENOH_RUN_RECORD; i++)
+        record[i] = (uint8_t)(37 * i + 11);
 }
 
 static void prepare_sealed(void) {
@@ -32,13 +38,13 @@ static void prepare_sealed_sha1(void) {
 }
 
 static void prepare_records(void) {
-    check_part(0, BALZENOH_LIMIT - blocks, records[0]);
-    check_part(BALZENOH_LIMIT - blocks, BALZENOH_LIMIT, records[1]);
-    check_part(BALZENOH_LIMIT, BALZENOH_LIMIT, records[2]);
+    make_record(0, BALZENOH_LIMIT - blocks, records[0]);
+    make_record(BALZENOH_LIMIT - blocks, BALZENOH_LIMIT, records[1]);
+    make_record(BALZENOH_LIMIT, BALZENOH_LIMIT, records[2]);
 }
 
 static void prepare_whole(void) {
-    check_part(0, blocks, run);
+    make_record(0, blocks, run);
     answer |= balzenoh_close(key, key_length, iv, 16, run, sizeof run, tag, sizeof tag);
     answer |= balzenoh_close_sha1(key, key_length, iv, 16, run, sizeof run, tag_sha1, sizeof tag_sha1);
 }
@@ -111,7 +117,8 @@ static void test_sha1(void) {
 
 static void sha1(void) {
     CALLER();
-    answer |= balzenoh_sha1(message, 16 * (size_t)blocks - 1, out, sizeof out);
+    size_t text = 16 * (size_t)blocks - 1;
+    answer |= balzenoh_sha1(message, text < BALZENOH_LONGEST_TEXT ? text : BALZENOH_LONGEST_TEXT, out, sizeof out);
 }
 
 /* Forward and back: the deeper one counts. */
@@ -141,10 +148,11 @@ static const struct {
     {"test_sha1", prepare_whole, test_sha1},
 };
 
-/* Every number up to 64, then every 31st, and the last. */
+/* Every number up to 64, then every 31st up to 4,000, and the last. */
 static uint32_t next(uint32_t number) {
-    uint32_t step = number < 64 ? 1 : 31;
-    return number < BALZENOH_LIMIT && number + step > BALZENOH_LIMIT ? BALZENOH_LIMIT : number + step;
+    if (number < 64)
+        return number + 1;
+    return number < 4000 || number == BALZENOH_LIMIT ? number + 31 : BALZENOH_LIMIT;
 }
 
 /* The most that a call was seen to use; 0 where that cannot be seen. */

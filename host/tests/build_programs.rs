@@ -102,6 +102,36 @@ fn the_benchmark_runs_opening_before_and_now() {
     }
 }
 
+#[test]
+fn the_benchmark_runs_the_longest_list() {
+    if !present("gcc") || !cfg!(bare_cipher) {
+        return println!("the benchmark of the longest list needs gcc and libaes_blocks.a: skipped");
+    }
+    let checkout = Checkout::new("longest");
+    let printed = told(&run(&checkout, "bench/longest", &["1"]));
+    for row in
+        ["16777215 bytes, MB/s", "in 512 runs of 2048 blocks, ms", "\n  check, then open in one piece ", "\njump by 1048576 "]
+    {
+        assert_eq!(printed.matches(row).count(), 1, "{row:?} in {printed}");
+    }
+    assert!(told(&run(&checkout, "bench/longest", &["--help"])).contains("host/bench/longest [ROUNDS]"));
+    for wrong in [&["ten"][..], &["0"], &[""], &["1", "1"]] {
+        assert_eq!(run(&checkout, "bench/longest", wrong).status.code(), Some(64), "{wrong:?}");
+    }
+}
+
+/// This library in the place of the earlier one: the same bytes, but it takes longer lists, which is told.
+#[test]
+fn stored_lists_are_held_to_an_earlier_library() {
+    if !present("gcc") {
+        return;
+    }
+    let before = format!("BALZENOH_BEFORE_DIR={ARCHIVES}");
+    let output = run(&Checkout::new("stored"), "env", &[&before[..], "stored/run"]);
+    assert_eq!(output.status.code(), Some(1));
+    assert_eq!(output.stderr, b"cipher finish, before: seal cipher 64000 gives 0, and not 3\n");
+}
+
 /// The crates of a commit are taken, and not those that lie there.
 #[test]
 fn an_earlier_library_is_built_in_a_copy_of_its_crates() {
