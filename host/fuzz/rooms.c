@@ -1,5 +1,5 @@
-/* Opening into outputs of every size, by the library and by the reference: messages of 0 to 130 bytes and of nearly 4,000 blocks, by both finishes and
-   under keys of both lengths; genuine records, damaged ones, and some that are not padded. */
+/* Opening into outputs of every size, by the library and by the reference: messages of 0 to 130 bytes and of nearly 4,000 blocks, by both finishes
+   and under keys of both lengths; genuine records, damaged ones, and some that are not padded. */
 #include "both.h"
 
 #include <stdio.h>

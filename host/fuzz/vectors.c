@@ -137,7 +137,7 @@ void reference_start(void) {
     check_jump("00000000000000000000000000000001", -1, "80000000000000000000000000000043", "ticket P1's example");
     check_jump("FBDA5324122747B5193D945E1FA869D3", -1, "FDED29920913A3DA8C9ECA2F0FD434AA", "the second mask jumped back");
     check_jump("1E68C2E51D9A74F67A799130112CE065", -1, "8F3461728ECD3A7B3D3CC89808967071", "the mask after the last block jumped back");
-    check_jump("8F3461728ECD3A7B3D3CC89808967071", -999999, "FDED29920913A3DA8C9ECA2F0FD434AA", "the last block's mask jumped back to the start mask");
+    check_jump("8F3461728ECD3A7B3D3CC89808967071", -999999, "FDED29920913A3DA8C9ECA2F0FD434AA", "the last block's mask jumped back to the first");
     check_jump("FDED29920913A3DA8C9ECA2F0FD434AA", 1000000, "1E68C2E51D9A74F67A799130112CE065", "the start mask jumped behind the last block");
 }
 

@@ -133,7 +133,7 @@ fn test_by_the_other_finish(segments: &Segments, finish: Finish, bench: &mut Ben
     assert_eq!(bench.check(&Call::Test { finish, key, iv, record, tag }).number, 0);
 }
 
-/// Mostly short, sometimes longer, now and then as long as can be.
+/// Mostly short, sometimes longer, now and then of thousands of blocks.
 fn random_length(random: &mut Random) -> usize {
     match random.below(1_000) {
         0 => random.within(63_900, 63_999),

@@ -9,8 +9,8 @@ use crate::support::pairs::{self, Pair, KEY_LENGTHS};
 use crate::support::plan;
 use crate::support::reference;
 
-/// The longest messages, about the edge of the last block.
-const LONGEST: [usize; 3] = [63_983, 63_984, 63_999];
+/// Long messages, about the edge of the last block.
+const LONG: [usize; 3] = [63_983, 63_984, 63_999];
 
 /// A finish, and the length of a key.
 type Way = (Finish, usize);
@@ -103,7 +103,7 @@ fn every_room_for_short_lists() {
 #[test]
 fn a_short_output_is_told_last() {
     let mut bench = Bench::new(plan::OPENING_ROOMS);
-    for (length, way) in (0..=130).chain(LONGEST).flat_map(|length| ways().map(move |way| (length, way))) {
+    for (length, way) in (0..=130).chain(LONG).flat_map(|length| ways().map(move |way| (length, way))) {
         let list = Sealed::new(&mut bench, way, length);
         let sealed = list.blocks(&list.padded());
         let [without, more] = list.unpadded(&mut bench);

@@ -45,7 +45,8 @@ fn first_block_and_count_around_the_limit() {
             check_all(&mut bench, [key_length, 16], first, length);
         }
     }
-    for (first, length) in (0..=3).flat_map(|first| (63_982..=64_002).map(move |length| (first, length))) {
+    // Runs of about 4,000 blocks that end about the limit.
+    for (first, length) in (1_044_576..=1_044_579).flat_map(|first| (63_982..=64_002).map(move |length| (first, length))) {
         let key_length = bench.random.pick(&pairs::KEY_LENGTHS);
         check_all(&mut bench, [key_length, 16], first, length);
     }

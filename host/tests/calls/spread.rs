@@ -2,8 +2,10 @@
 
 use std::env;
 use std::process::Command;
+use std::sync::Mutex;
 
-use balzenoh::{check_in_runs, check_in_runs_with, open_with, seal, seal_in_runs, seal_in_runs_with, seal_with};
+use balzenoh::{check_in_runs, check_in_runs_watched, check_in_runs_with, open_with};
+use balzenoh::{seal, seal_in_runs, seal_in_runs_watched, seal_in_runs_with, seal_with};
 use balzenoh::{Finish, Iv, Key, Refusal};
 
 use crate::support::finish::{around, other, FINISHES};
@@ -53,6 +55,24 @@ fn the_usual_finish_is_the_ciphers() {
         assert_eq!(seal(&key, &iv, &message).as_ref(), Ok(&sealed));
         assert_eq!(seal_in_runs(&key, &iv, &message, 3, 2).as_ref(), Ok(&sealed));
         assert_eq!(check_in_runs(&key, &sealed, 3, 2), Ok(()));
+    }
+}
+
+/// Every block is told once, in as many calls as there are runs, and the answer is the same.
+#[test]
+fn all_blocks_are_told() {
+    let (key, iv, message) = (Key::from([51; 16]), Iv::from([52; 16]), [b'x'; 1_000]);
+    let sealed = seal(&key, &iv, &message).expect("within the limit");
+    for (runs, threads) in RUNS.iter().flat_map(|&runs| THREADS.map(|threads| (runs, threads))) {
+        let [sealing, checking] = [(); 2].map(|()| Mutex::new(Vec::new()));
+        let tell = |told: &Mutex<Vec<usize>>, blocks| told.lock().expect("no thread has panicked").push(blocks);
+        let given = seal_in_runs_watched(Finish::Cipher, &key, &iv, &message, runs, threads, |blocks| tell(&sealing, blocks));
+        assert_eq!(given.as_ref(), Ok(&sealed));
+        let passed = check_in_runs_watched(Finish::Cipher, &key, &sealed, runs, threads, |blocks| tell(&checking, blocks));
+        assert_eq!(passed, Ok(()));
+        for told in [sealing, checking].map(|told| told.into_inner().expect("no thread has panicked")) {
+            assert_eq!((told.len(), told.iter().sum()), (runs.clamp(1, 63), 63));
+        }
     }
 }
 
