@@ -58,15 +58,11 @@ int32_t draw_distance(draw *d) {
     }
 }
 
-size_t draw_long_length(draw *d) {
-    static const uint16_t edges[] = {32752, 32767, 32768, 63983, 63984, 63998, 63999, 64000, 64001, 64015, 64016, 65535};
-    return edges[draw_below(d, sizeof edges / sizeof edges[0])];
-}
-
 size_t draw_length(draw *d) {
+    static const uint16_t edges[] = {32752, 32767, 32768, 63983, 63984, 63998, 63999, 64000, 64001, 64015, 64016, 65535};
     switch (draw_below(d, 128)) {
     case 21:
-        return draw_long_length(d);
+        return edges[draw_below(d, sizeof edges / sizeof edges[0])];
     case 13:
     case 45:
     case 77:

@@ -25,9 +25,6 @@ uint32_t draw_number(draw *d);
 /* A distance to jump, forward or back: near 0, within the limit, at an edge, or any 32 bits. */
 int32_t draw_distance(draw *d);
 
-/* A length of some thousands of blocks, often about 4,000. */
-size_t draw_long_length(draw *d);
-
 /* The length of a message or a run: mostly short, often at the edge of a block, rarely some thousands of blocks. Those about the limit are
    guard_long's. */
 size_t draw_length(draw *d);

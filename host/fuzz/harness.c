@@ -34,13 +34,13 @@ static enum finish other_finish(enum finish by) {
     return by == BY_HASH ? BY_CIPHER : BY_HASH;
 }
 
-/* Flips one bit, or leaves the bytes as they are: as likely the one as the other. */
+/* Flips one bit, which may be the last, or leaves the bytes as they are: as likely the one as the other. */
 static void maybe_damage(draw *d, uint8_t *bytes, size_t len) {
     uint32_t way = draw_below(d, 6);
     if (len == 0 || way < 3)
         return;
-    size_t place = way == 3 ? len - 1 - draw_below(d, 16) % len : draw_below(d, 65536) % len;
-    bytes[place] ^= (uint8_t)(1 << draw_below(d, 8));
+    size_t from_end = way == 3 ? 0 : way == 4 ? draw_below(d, 16) : draw_below(d, 65536);
+    bytes[len - 1 - from_end % len] ^= (uint8_t)(way == 3 ? 1 : 1 << draw_below(d, 8));
 }
 
 /* ---- whole lists */
@@ -78,7 +78,7 @@ static void open_buffer(draw *d, enum finish by, size_t len, size_t message_len)
 static void call_open(draw *d) {
     static uint8_t text[LONGEST];
     enum finish by = draw_finish(d);
-    size_t len = draw_rarely(d, 48) ? draw_long_length(d) : draw_length(d), blocks = len / 16 + 1, sealed = 16 * blocks + reference_around(by);
+    size_t len = draw_length(d), blocks = len / 16 + 1, sealed = 16 * blocks + reference_around(by);
     memset(text, 0, 16 * blocks);
     memcpy(text, message, len);
     text[len] = 0x80;
@@ -157,6 +157,23 @@ static void call_longest_list(draw *d) {
         both_seal(by, k, v, guard_long(draw_longest(d)), draw_below(d, 64));
 }
 
+static int pair_masks_nothing(void) {
+    static const uint8_t zeros[16];
+    uint8_t rare[16];
+    reference_zero_mask_iv(key, key_len, rare);
+    return memcmp(key, zeros, 16) == 0 && memcmp(iv, rare, 16) == 0;
+}
+
+/* A sealed record of about 4,000 blocks, under a pair that masks nothing: it gets 10, without work. */
+static void call_long_record(draw *d) {
+    enum finish by = draw_finish(d);
+    if (!pair_masks_nothing())
+        return;
+    slice k = draw_key(d);
+    memcpy(buffer, iv, 16);
+    both_open(by, k, bytes_of(buffer, 16 * (3980 + (size_t)draw_below(d, 256)) + reference_around(by)), draw_below(d, 64));
+}
+
 static void call_longest_run(draw *d) {
     slice k = draw_key(d), v = draw_iv(d), bytes = guard_long(draw_longest(d));
     uint32_t first = draw_below(d, 3);
@@ -173,9 +190,12 @@ static void put_number(uint8_t *bytes, uint32_t n) {
         bytes[i] = (uint8_t)(n >> (24 - 8 * i));
 }
 
-/* The count of a record that starts at `first`: small, up to the limit or one beyond, or any number. */
+/* The count of a record that starts at `first`: small, up to the limit or one beyond, or any number. Beyond the limit, often one with which a sum
+   of 32 bits is 0 or 1 again. */
 static uint32_t draw_count(draw *d, uint32_t first) {
     uint32_t left = first <= LIMIT ? LIMIT - first : 0;
+    if (first > LIMIT && draw_rarely(d, 2))
+        return 0 - first + draw_below(d, 2);
     switch (draw_below(d, 16)) {
     case 15:
         return draw_number(d);
@@ -254,7 +274,7 @@ static void call_join_list(draw *d) {
 }
 
 static slice draw_whole_record(draw *d) {
-    draw_chain(d, 1, draw_rarely(d, 8) ? draw_number(d) : 0);
+    draw_chain(d, 1, draw_rarely(d, 6) ? draw_number(d) : 0);
     return bytes_of(records, draw_about(d, RECORD));
 }
 
@@ -415,7 +435,7 @@ static void draw_list(draw *d) {
 int LLVMFuzzerTestOneInput(const uint8_t *bytes, size_t len) {
     static void (*const calls[])(draw *) = {call_seal, call_open, call_open_unpadded, call_open_noise, call_seal_run, call_check_run,
                                             call_join, call_join_list, call_close, call_test, call_jump, call_cut, call_sha1,
-                                            call_longest_list, call_longest_run};
+                                            call_longest_list, call_longest_run, call_long_record};
     draw d = {bytes, len};
     draw_list(&d);
     for (int i = 0; i < CALLS && d.left > 0; i++)
