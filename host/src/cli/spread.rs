@@ -6,8 +6,8 @@ use std::thread::available_parallelism;
 use super::args::Args;
 use super::table;
 
-/// Where the runs are not counted by the user, none has more blocks than this.
-pub const LONGEST_RUN: usize = 2_048;
+/// Where the user does not say how many runs there are, none has more blocks than this.
+const MOST_BLOCKS: usize = 2_048;
 
 /// The numbers of runs and threads.
 #[derive(Clone, Copy)]
@@ -23,16 +23,16 @@ impl Spread {
         match (number(table::RUNS), number(table::THREADS)) {
             (None, None) => None,
             (Some(runs), threads) => Some(Self { runs, threads: threads.unwrap_or(1) }),
-            (None, Some(threads)) => Some(Self { runs: threads.max(blocks.div_ceil(LONGEST_RUN)), threads }),
+            (None, Some(threads)) => Some(Self { runs: threads.max(blocks.div_ceil(MOST_BLOCKS)), threads }),
         }
     }
 
-    /// The same and, where no option is given, that of a list which has more blocks than a run: over all that this machine can do at
-    /// a time.
+    /// As the options have it or, where none is given and a list has more blocks than a run, on as many threads as this machine runs
+    /// at a time.
     pub fn usual(args: &Args, blocks: usize) -> Option<Self> {
         Self::asked(args, blocks).or_else(|| {
             let threads = available_parallelism().map_or(1, NonZero::get);
-            (blocks > LONGEST_RUN).then(|| Self { runs: blocks.div_ceil(LONGEST_RUN), threads })
+            (blocks > MOST_BLOCKS).then(|| Self { runs: blocks.div_ceil(MOST_BLOCKS), threads })
         })
     }
 }
