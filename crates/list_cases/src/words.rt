@@ -1,10 +1,13 @@
 // Two words for sixteen bytes (ticket P12). The masks and pre-authenticators are those that document 01 and the mode's paper print, with
 // the words as numbers.
 use blocks::words::Words;
+use case_records::answer::of_run;
 use case_records::answer::same_words;
+use case_records::answer::written;
 use case_text::bytes::one_if;
 use case_text::hex::block;
 use case_text::paper;
+use case_text::random::noise;
 use mode::RunRecord;
 ghost use Prim.Native.Nat.{_≤_};
 
@@ -73,13 +76,17 @@ fn holds(run: RunRecord, first: u32, count: u32, high: u64, low: u64) -> usize
     one_if(run.first == first && run.count == count && same_words(given, expected))
 }
 
-// The record of one block of the paper's, sealed.
+// The record of one block of the paper's, sealed. Where the answer is not as it should be, the record is blank.
 fn sealed(first: u32, text: [u8; 16]) -> RunRecord {
     let key = paper::key();
     let iv = paper::iv();
-    let mut out = [0u8; 16];
+    let mut out = [0u8; 32];
+    noise(&mut out);
     let answer = calls::run::seal_run(&key, &iv, first, false, &text, &mut out);
-    answer.run
+    if written(of_run(answer), 0, 16, &out) {
+        return answer.run;
+    }
+    mode::refused(0).run
 }
 
 // The record of one ciphertext block, checked.
