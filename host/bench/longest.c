@@ -1,5 +1,5 @@
 /* The longest list: 16,777,215 bytes, which are 1,048,576 blocks, by every contestant in one piece, and by the library in runs of 2,048 blocks on
-   one thread and on two. Beside it the library on 4,000 blocks, for which the processor's caches have room.
+   one thread and on two. Beside it the library on 4,000 blocks.
 
        longest ROUNDS
 */
