@@ -36,3 +36,38 @@ impl Spread {
         })
     }
 }
+
+#[cfg(test)]
+mod tests {
+    use std::ffi::{OsStr, OsString};
+
+    use super::{Spread, MOST_BLOCKS};
+    use crate::cli::args::Args;
+    use crate::cli::table;
+
+    fn with(options: &[&str]) -> Args {
+        let given = ["--key", "00", "--iv", "00"].iter().chain(options).map(OsString::from);
+        let command = table::command(OsStr::new("seal")).expect("a command");
+        Args::parse(command, given).unwrap_or_else(|_| panic!("{options:?} are options"))
+    }
+
+    #[test]
+    fn a_run_has_2048_blocks_at_most_unless_the_user_counts_the_runs() {
+        for blocks in (2_049..10_000).chain([1_000_000, 1_048_575, 1_048_576]) {
+            for options in [&[][..], &["--threads", "1"], &["--threads", "3"]] {
+                let spread = Spread::usual(&with(options), blocks).expect("a long list");
+                assert!(blocks.div_ceil(spread.runs) <= MOST_BLOCKS, "{blocks} blocks, {options:?}");
+            }
+        }
+        let Spread { runs, threads } = Spread::usual(&with(&["--runs", "2"]), 1_048_576).expect("as asked");
+        assert_eq!((runs, threads), (2, 1));
+    }
+
+    #[test]
+    fn a_short_list_is_one_piece_unless_the_user_asks() {
+        assert!(Spread::usual(&with(&[]), 2_048).is_none());
+        assert!(Spread::asked(&with(&[]), 1_048_576).is_none());
+        let Spread { runs, threads } = Spread::usual(&with(&["--threads", "3"]), 9).expect("as asked");
+        assert_eq!((runs, threads), (3, 3));
+    }
+}
