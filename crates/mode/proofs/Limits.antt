@@ -9,9 +9,8 @@ use lib.IntN.{ℤ, natAbs}
 use lib.Dec.{eqb, ltb}
 use native.Mathlib.Omega.{arith}
 use borrow.Author.Tests.{ltb-true, ltb-false, le-ltb}
-use Rattle.fips197.specs.Aes.{KeyLength}
 use Rattle.fips197.proofs.Keys.{is-key}
-use Rattle.mode.specs.Mode.{Cipher, Finish, overhead, RunRecord, inWords, blocksOf, ivPart}
+use Rattle.mode.specs.Mode.{Cipher, Finish, overhead, RunRecord, inWords, blocksOf}
 use Rattle.mode.specs.Table.{Answer, refused, decide, NoneHolds, limit, notKey, not16, unaligned, notTag, longestMessageWithin, longestSealedWithin, tooLongWithin, notSealed, notSealedWithin, beyondWithin, anyBeyond, anyBeyondWithin, tooFarWithin}
 use Rattle.mode.specs.Calls.{outcomeBy, blocksOfRun, unalignedRun, seal, openSealed, openRowsWithin, sealRun, checkRun, joinTwo, joinList, close, test, jumpMask}
 use Rattle.mode.specs.Demands.{SameOr, SameOrInto, LowerLimit, LowerLimits}

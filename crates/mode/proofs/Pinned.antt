@@ -9,7 +9,7 @@ use mathlib.Core.Logic.{_⊎_, inl, inr, _↔_}
 use mathlib.Core.List.{List, [], _∷_, _++_, map}
 use mathlib.Core.Bool.{Bool, true, false, cond, not, _||_}
 use Prim.Native.Nat.{ℕ, suc, _+_, _*_, _-_, _%_, _≤_, _<_}
-use lib.IntN.{ℤ, pos, negsuc, negℤ, negℤ-negℤ}
+use lib.IntN.{ℤ, pos, negsuc, negℤ, negℤ-negℤ, natAbs}
 use lib.ListN.{length, drop, replicate, length-append}
 use lib.Dec.{eqb, ltb}
 use native.Mathlib.Omega.{arith}
@@ -24,7 +24,7 @@ use Rattle.fips197.specs.Aes.{KeyLength, short, long, Key}
 use Rattle.sha1.specs.Sha1.{sha1, longestText}
 use Rattle.mode.specs.Mode.{Cipher, Finish, overhead, byCipher, bySha1, plaintext, ciphertext, RunRecord, inWords, ByteRecord, inBytes, zeroBlock, keyBlock, encrypt, startMask, blocksOf, ivPart, cipherPart, tagPart, sealedRecord, unbrokenTag, UnbrokenCheck}
 use Rattle.mode.specs.Table.{Answer, refused, given, decide, tableOrder, openOrder, inOrder, notKey, not16, unaligned, tooLong, notTag, notSealed, notSealedWithin, beyond, tooFar, tooFarWithin, apart, notWhole, zeroMask, tooShort, limit, longestMessage, longestMessageWithin, longestSealed, longestSealedWithin, beyondWithin, anyBeyondWithin}
-use Rattle.mode.specs.Calls.{Outcome, Kind, middle, last, outcomeBy, blocksOfRun, unalignedRun, seal, sealWithin, openSealed, openWithin, openRowsWithin, unpadded, notPadded, orEmpty, plaintextOf, passFrom, runRecord, sealRun, checkRun, joinTwo, closingTag, close, test, Calls, callsOf}
+use Rattle.mode.specs.Calls.{Outcome, Kind, middle, last, outcomeBy, blocksOfRun, unalignedRun, seal, sealWithin, openSealed, openWithin, openRowsWithin, unpadded, notPadded, orEmpty, plaintextOf, passFrom, runRecord, sealRun, sealRunWithin, checkRun, checkRunWithin, joinTwo, joinTwoWithin, joinList, joinListWithin, closingTag, close, closeWithin, test, testWithin, jumpMask, jumpMaskWithin, Calls, callsOf}
 use Rattle.mode.specs.OpenBefore.{openRowsBefore, openBefore}
 use Rattle.mode.specs.Parallel.{sealing, checking, ivOf, lastKind, textOf, Fits, Cut, Setting, WellFormed, Segment, isRecorded, segment, Call, runAt, joinPair, joinMany, consecutive, AllRecorded, recordsAt, Allowed, start, roomOf, runOutcome, afterAll, EachCall}
 use Rattle.mode.specs.Demands.{IsAes, Aes128And256, KeyInStepOne, TwoFinishes, Gives, Refuses, InTable, NonzeroMask, SealedFrom, Demand2a, Demand2b, Demand2d, OldSize, Agrees, Demand3, ZeroMask, zeroMaskIv, without, AsBefore, Formed, inForm, mapAnswer, WordsAsBytes, RunRefused, ZeroMaskRack, JumpsTo, SignedJump, SameOr, SameOrInto, LowerLimit, LowerLimits}
@@ -354,23 +354,60 @@ pub one-block-more : (blocksBeyond limit 1048577 ≡ replicate 5 true) × (block
 unfolding beyondWithin anyBeyondWithin tooFarWithin
 one-block-more = (refl, refl)
 
--- Every lower limit is compared with; what it did not refuse, and what it reaches, comes to the same now; so a list that was sealed has the bytes that it would get now, and opens as it did
+-- a condition does not hold and fail
+not-both : {b : Bool} → b ≡ false → b ≡ true → ⊥
+not-both e g = let y : _≡_ {A = ℕ} 0 1 = (let z = sym e ∙ g in cc) in omega arith
+
+-- either way of saying what a lower limit leaves as it is: what it did not refuse with that number, and what is not longer
+pub not-refused : {A : Type 0} {longer : Type 0} (k : ℕ) (a b : Answer A) → SameOr longer k a b → (a ≡ refused k → ⊥) → a ≡ b
+not-refused k a b (inl e) h = e
+not-refused k a b (inr e) h = absurd (h (e .1))
+
+pub not-longer : {A : Type 0} (longer : Type 0) (k : ℕ) (a b : Answer A) → SameOr longer k a b → (longer → ⊥) → a ≡ b
+not-longer longer k a b (inl e) h = e
+not-longer longer k a b (inr e) h = absurd (h (e .0))
+
+pub not-longer-into : {A : Type 0} (longer : Type 0) (k room : ℕ) (o p : Outcome A) → SameOrInto longer k room o p → (longer → ⊥) → o ≡ p
+not-longer-into longer k room o p (inl e) h = e
+not-longer-into longer k room o p (inr e) h = absurd (h (e .0))
+
+-- Every lower limit is compared with, and what it reaches comes to the same now, in each call.
+module _ (c : Cipher) (d : LowerLimits c) (n : ℕ) (h : n ≤ limit) where
+  pub every-lower : LowerLimit c n
+  every-lower = d n h
+
+  pub message-reached : (t : Finish) (key iv message : List ℕ) (room : ℕ) → length message ≤ 16 * n - 1 → sealWithin t c n key iv message room ≡ seal t c key iv message room
+  message-reached t key iv message room l = not-longer-into (16 * n - 1 < length message) 3 room _ _ ((d n h) .of-seal t key iv message room) (λ g. omega (arith, g, l))
+
+  pub record-reached : (t : Finish) (key sealed : List ℕ) (room : ℕ) → length sealed ≤ 16 * n + overhead t → openWithin t c n key sealed room ≡ openSealed t c key sealed room
+  record-reached t key sealed room l = not-longer-into (16 * n + overhead t < length sealed) 3 room _ _ ((d n h) .of-open t key sealed room) (λ g. omega (arith, g, l))
+
+  pub run-reached : (key iv : List ℕ) (first : ℕ) (kind : Kind) (bytes : List ℕ) (room : ℕ) → first + length (blocksOfRun kind bytes) ≤ n
+      → sealRunWithin inWords c n key iv first kind bytes room ≡ sealRun inWords c key iv first kind bytes room
+  run-reached key iv first kind bytes room l =
+      not-longer-into (n < first + length (blocksOfRun kind bytes)) 4 room _ _ ((d n h) .of-seal-run key iv first kind bytes room) (λ g. omega (arith, g, l))
+
+  pub check-reached : (key iv : List ℕ) (first : ℕ) (bytes : List ℕ) → first + length (blocksOf bytes) ≤ n → checkRunWithin inWords c n key iv first bytes ≡ checkRun inWords c key iv first bytes
+  check-reached key iv first bytes l = not-longer (n < first + length (blocksOf bytes)) 4 _ _ ((d n h) .of-check-run key iv first bytes) (λ g. omega (arith, g, l))
+
+  pub pair-reached : (l r : RunRecord) → anyBeyondWithin n inWords (l ∷ r ∷ []) ≡ false → joinTwoWithin inWords n l r ≡ joinTwo inWords l r
+  pair-reached l r e = not-longer (anyBeyondWithin n inWords (l ∷ r ∷ []) ≡ true) 4 _ _ ((d n h) .of-join l r) (λ g. not-both e g)
+
+  pub list-reached : (rs : List RunRecord) → anyBeyondWithin n inWords rs ≡ false → joinListWithin inWords n rs ≡ joinList inWords rs
+  list-reached rs e = not-longer (anyBeyondWithin n inWords rs ≡ true) 4 _ _ ((d n h) .of-join-list rs) (λ g. not-both e g)
+
+  pub closing-reached : (t : Finish) (key iv : List ℕ) (r : RunRecord) (tag : List ℕ) → r .first + r .count ≤ n
+      → (closeWithin inWords t c n key iv r ≡ close inWords t c key iv r) × (testWithin inWords t c n key iv r tag ≡ test inWords t c key iv r tag)
+  closing-reached t key iv r tag l = (
+    not-longer (n < r .first + r .count) 4 _ _ ((d n h) .of-close t key iv r) (λ g. omega (arith, g, l)),
+    not-longer (n < r .first + r .count) 4 _ _ ((d n h) .of-test t key iv r tag) (λ g. omega (arith, g, l)),
+  )
+
+  pub jump-reached : (mask : List ℕ) (distance : ℤ) (room : ℕ) → natAbs distance ≤ n → jumpMaskWithin n mask distance room ≡ jumpMask mask distance room
+  jump-reached mask distance room l = not-longer-into (n < natAbs distance) 4 room _ _ ((d n h) .of-jump mask distance room) (λ g. omega (arith, g, l))
+
+-- so a list that was sealed has the bytes that it would get now, and a longer one gets 3 from the old machine
 module _ (c : Cipher) (d : LowerLimits c) where
-  pub every-lower : (n : ℕ) → n ≤ limit → LowerLimit c n
-  every-lower = d
-
-  pub not-refused : {A : Type 0} {longer : Type 0} (k : ℕ) (a b : Answer A) → SameOr longer k a b → (a ≡ refused k → ⊥) → a ≡ b
-  not-refused k a b (inl e) h = e
-  not-refused k a b (inr e) h = absurd (h (e .1))
-
-  pub reached : (t : Finish) (key sealed : List ℕ) (n room : ℕ) → n ≤ limit → length sealed ≤ 16 * n + overhead t → openWithin t c n key sealed room ≡ openSealed t c key sealed room
-  reached t key sealed n room h l = by ((d n h) .of-open t key sealed room)
-    where
-      by : SameOrInto (longestSealedWithin n t < length sealed) 3 room (openWithin t c n key sealed room) (openSealed t c key sealed room)
-          → openWithin t c n key sealed room ≡ openSealed t c key sealed room
-      by (inl e) = e
-      by (inr e) = absurd (let g : 16 * n + overhead t < length sealed = e .0 in omega (arith, g, l))
-
   pub stored : (t : Finish) (key iv message r : List ℕ) (room : ℕ) → (sealWithin t c 4000 key iv message room) .answer ≡ given r → Gives (seal t c key iv message room) r r room
   stored t key iv message r room e = by ((d 4000 (omega arith)) .of-seal t key iv message room)
     where
