@@ -44,7 +44,7 @@ def snake(word):
     word = FORMER.get(word, word)
     if word[:1].isupper():
         return word
-    return re.sub(r"(?<=[a-z0-9'])([A-Z])(?=[a-z0-9])", lambda m: "_" + m[1].lower(), word)
+    return re.sub(r"(?<=[a-z0-9'])([A-Z])(?=[a-z0-9]|$)", lambda m: "_" + m[1].lower(), word)
 
 
 def read(path):
@@ -108,6 +108,11 @@ def respelled(specs, lemmas, fields, words):
     return {name: new for name, new in table.items() if name != new}
 
 
+def aliases():
+    """Names that a use line gives after `as`."""
+    return {w for path in texts(".antt", ".rt") for w in re.findall(r"\bas ([a-z]\w*)", read(path)) if snake(w) != w}
+
+
 def in_clauses(text, turn):
     """Turns the ghost text of a .rt file and leaves its code."""
     out, at = [], 0
@@ -126,7 +131,7 @@ def in_clauses(text, turn):
 
 
 def main():
-    table = respelled(*defined(), library())
+    table = respelled(*defined(), library()) | {w: snake(w) for w in aliases()}
     if "--list" in sys.argv:
         for name, new in sorted(table.items()):
             print(name, new, "  !" if new.endswith("_lem") else "")

@@ -2,7 +2,7 @@
 ghost use Rattle.std.specs.Prelude.{◌≡◌, ◌-◌, ◌*◌, ◌/◌, ◌%◌, ◌^◌, ◌≤◌, get_or};
 ghost use Rattle.std.specs.Int.Bits.{bit_xor};
 ghost use Rattle.blocks.specs.Tab.{tab};
-ghost use Rattle.fips197.specs.Sbox.{affine as affineOf, inv_affine};
+ghost use Rattle.fips197.specs.Sbox.{affine as affine_of, inv_affine};
 
 // A byte turned by n bits to the left.
 fn rotate(x: u8, n: u32) -> u8
@@ -14,7 +14,7 @@ fn rotate(x: u8, n: u32) -> u8
 }
 
 fn affine(x: u8) -> u8
-    ensures { result ≡ affineOf x }
+    ensures { result ≡ affine_of x }
 {
     x ^ rotate(x, 1) ^ rotate(x, 2) ^ rotate(x, 3) ^ rotate(x, 4) ^ 0x63
 }
@@ -27,7 +27,7 @@ fn inv_affine(x: u8) -> u8
 
 // The affine step at each byte.
 pub(crate) fn affines(s: [u8; 16]) -> [u8; 16]
-    ensures { result ≡ tab 16 (λ i. affineOf (get_or s i 0)) }
+    ensures { result ≡ tab 16 (λ i. affine_of (get_or s i 0)) }
 {
     let mut r = [0u8; 16];
     for i in 0..16 {

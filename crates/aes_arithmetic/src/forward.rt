@@ -1,13 +1,13 @@
 // FIPS 197, 5.1: the rounds of the cipher, and its two halves.
 ghost use Rattle.std.specs.Prelude.{◌≡◌, ◌+◌, ◌≤◌};
 ghost use Rattle.std.proofs.Math.Seq.{slice};
-ghost use Rattle.fips197.specs.Cipher.{round_key, round as roundOf, rounds as roundsOf};
+ghost use Rattle.fips197.specs.Cipher.{round_key, round as round_of, rounds as rounds_of};
 ghost use Rattle.aes_steps.specs.Schedule.{rounds_in, round_keys_in, Schedule, first_half_by, second_half_by};
 
 fn round(s: [u8; 16], keys: &[u8; crate::KEYS], n: usize) -> [u8; 16]
     requires schedule { Schedule keys.now }
     requires n_bound { n ≤ rounds_in keys.now }
-    ensures { result ≡ roundOf s (round_key (round_keys_in keys.now) n) }
+    ensures { result ≡ round_of s (round_key (round_keys_in keys.now) n) }
 {
     let a = crate::sbox::sub_bytes(s);
     let b = aes_steps::state::shift_rows(a);
@@ -20,7 +20,7 @@ fn rounds(s: [u8; 16], keys: &[u8; crate::KEYS], from: usize, to: usize) -> [u8;
     requires schedule { Schedule keys.now }
     requires from_le_to { from ≤ to }
     requires to_bound { to ≤ rounds_in keys.now + 1 }
-    ensures { result ≡ roundsOf (slice from to (round_keys_in keys.now)) s }
+    ensures { result ≡ rounds_of (slice from to (round_keys_in keys.now)) s }
 {
     let mut t = s;
     let mut i = from;

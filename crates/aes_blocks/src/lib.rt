@@ -1,3 +1,4 @@
+#![tactic(auto)]
 // AES-128 or AES-256 of each block of a slice by itself, for programs in C and Rust: to compare it with others, and to measure it. It is no
 // mode: equal blocks give equal blocks.
 ghost use Rattle.std.specs.Prelude.{◌≡◌, ◌++◌, ◌*◌, ◌/◌, ◌≤◌, length, drop};
@@ -7,7 +8,7 @@ ghost use Rattle.cipher.specs.Keys.{key_of, Expanded};
 ghost use Rattle.aes_blocks.specs.EachBlock.{each, refusal as refusal_of, output};
 ghost use Rattle.aes_blocks.specs.Direction.{cipher_of};
 
-#[derive(Drop)]
+#[derive(Clone, Copy)]
 enum Direction {
     Encrypt,
     Decrypt,

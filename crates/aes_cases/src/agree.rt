@@ -59,7 +59,7 @@ fn from_ciphertext(engine: u8, key: &[u8], block: [u8; 16]) -> [u8; 16]
 // ---- cases
 
 // How many cases agreed, by what was tried.
-#[derive(Drop)]
+#[derive(Clone, Copy)]
 pub struct Agreed {
     pub encrypted: usize,
     pub decrypted: usize,

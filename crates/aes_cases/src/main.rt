@@ -1,3 +1,4 @@
+#![tactic(auto)]
 // Published vectors of AES-128 and AES-256 and vectors of OpenSSL's, run against the proved library on each of its engines; and the engines beside
 // each other. Each line says how many cases agreed.
 ghost use Rattle.std.specs.Prelude.{◌≤◌};

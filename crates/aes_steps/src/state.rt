@@ -3,7 +3,7 @@ ghost use Rattle.std.specs.Prelude.{◌≡◌, ◌+◌, ◌*◌, ◌%◌, ◌<�
 ghost use Rattle.std.specs.Int.Bits.{bit_xor};
 ghost use Rattle.blocks.specs.Tab.{tab};
 ghost use Rattle.fips197.specs.Gf256.{xtimes, gmul};
-ghost use Rattle.fips197.specs.State.{shift_rows, inv_shift_rows, mix as mixOf, mix_columns, inv_mix_columns, add_round_key};
+ghost use Rattle.fips197.specs.State.{shift_rows, inv_shift_rows, mix as mix_of, mix_columns, inv_mix_columns, add_round_key};
 ghost use Rattle.fips197.specs.Cipher.{round_key};
 ghost use Rattle.aes_steps.specs.Schedule.{rounds_in, round_keys_in, Schedule};
 
@@ -54,7 +54,7 @@ pub fn inv_shift_rows(s: [u8; 16]) -> [u8; 16]
 
 // 02 a + 03 b + c + d, with one doubling.
 fn mix(a: u8, b: u8, c: u8, d: u8) -> u8
-    ensures { result ≡ mixOf a b c d }
+    ensures { result ≡ mix_of a b c d }
 {
     double(a ^ b) ^ (b ^ (c ^ d))
 }

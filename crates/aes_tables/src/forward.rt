@@ -1,16 +1,16 @@
 // FIPS 197, 5.1: the rounds of the cipher, and its two halves.
 ghost use Rattle.std.specs.Prelude.{◌≡◌, ◌+◌, ◌≤◌};
 ghost use Rattle.std.proofs.Math.Seq.{slice};
-ghost use Rattle.fips197.specs.Sbox.{sbox as sboxOf};
-ghost use Rattle.fips197.specs.Cipher.{round_key, round as roundOf, rounds as roundsOf};
+ghost use Rattle.fips197.specs.Sbox.{sbox as sbox_of};
+ghost use Rattle.fips197.specs.Cipher.{round_key, round as round_of, rounds as rounds_of};
 ghost use Rattle.aes_steps.specs.Schedule.{rounds_in, round_keys_in, Schedule, first_half_by, second_half_by};
 ghost use Rattle.aes_tables.specs.Table.{Tabulates};
 
 fn round(s: [u8; 16], keys: &[u8; crate::KEYS], n: usize, sbox: &[u8; 256]) -> [u8; 16]
     requires schedule { Schedule keys.now }
     requires n_bound { n ≤ rounds_in keys.now }
-    requires tabulates { Tabulates sbox.now sboxOf }
-    ensures { result ≡ roundOf s (round_key (round_keys_in keys.now) n) }
+    requires tabulates { Tabulates sbox.now sbox_of }
+    ensures { result ≡ round_of s (round_key (round_keys_in keys.now) n) }
 {
     let a = crate::state::sub_shift(s, sbox);
     let b = aes_steps::state::mix_columns(a);
@@ -28,8 +28,8 @@ fn rounds(
     requires schedule { Schedule keys.now }
     requires from_le_to { from ≤ to }
     requires to_bound { to ≤ rounds_in keys.now + 1 }
-    requires tabulates { Tabulates sbox.now sboxOf }
-    ensures { result ≡ roundsOf (slice from to (round_keys_in keys.now)) s }
+    requires tabulates { Tabulates sbox.now sbox_of }
+    ensures { result ≡ rounds_of (slice from to (round_keys_in keys.now)) s }
 {
     let mut t = s;
     let mut i = from;
@@ -44,7 +44,7 @@ fn rounds(
 // The key whitening and the first half of the rounds: 1 to 5 of ten, 1 to 7 of fourteen.
 pub fn first_half(s: [u8; 16], keys: &[u8; crate::KEYS], sbox: &[u8; 256]) -> [u8; 16]
     requires schedule { Schedule keys.now }
-    requires tabulates { Tabulates sbox.now sboxOf }
+    requires tabulates { Tabulates sbox.now sbox_of }
     ensures { result ≡ first_half_by keys.now s }
 {
     let half = aes_steps::schedule::half(keys);
@@ -55,7 +55,7 @@ pub fn first_half(s: [u8; 16], keys: &[u8; crate::KEYS], sbox: &[u8; 256]) -> [u
 // The other half: rounds 6 to 10, or 8 to 14. The last mixes no columns.
 pub fn second_half(s: [u8; 16], keys: &[u8; crate::KEYS], sbox: &[u8; 256]) -> [u8; 16]
     requires schedule { Schedule keys.now }
-    requires tabulates { Tabulates sbox.now sboxOf }
+    requires tabulates { Tabulates sbox.now sbox_of }
     ensures { result ≡ second_half_by keys.now s }
 {
     let half = aes_steps::schedule::half(keys);

@@ -9,7 +9,7 @@ ghost use Rattle.aes_tables.specs.Table.{Tabulates};
 ghost use Rattle.aes_tables.specs.Half.{half_of, TableOf};
 
 // The halves that blocks in bytes go through.
-#[derive(Drop)]
+#[derive(Clone, Copy)]
 pub enum Half {
     First,
     Second,

@@ -1,6 +1,6 @@
 // FIPS 197, 5.2: the key schedule, for a key of four words or of eight.
 ghost use Rattle.std.specs.Prelude.{◌≡◌};
-ghost use Rattle.fips197.specs.Sbox.{sbox as sboxOf};
+ghost use Rattle.fips197.specs.Sbox.{sbox as sbox_of};
 ghost use Rattle.fips197.specs.KeyExpansion.{sub_word, temp};
 ghost use Rattle.fips197.specs.Aes.{KeyLength};
 ghost use Rattle.aes_steps.specs.Schedule.{schedule_of};
@@ -8,7 +8,7 @@ ghost use Rattle.aes_steps.specs.Words.{KeyWords};
 ghost use Rattle.aes_tables.specs.Table.{Tabulates};
 
 fn sub_word(t: [u8; 4], sbox: &[u8; 256]) -> [u8; 4]
-    requires { Tabulates sbox.now sboxOf }
+    requires { Tabulates sbox.now sbox_of }
     ensures { result ≡ sub_word t }
 {
     [
@@ -22,7 +22,7 @@ fn sub_word(t: [u8; 4], sbox: &[u8; 256]) -> [u8; 4]
 // The word before word i, as it goes into word i. Under four words and under eight, the S-box is at work in every fourth.
 fn temp_word(t: [u8; 4], i: usize, nk: usize, sbox: &[u8; 256]) -> [u8; 4]
     requires key_words { KeyWords nk i }
-    requires tabulates { Tabulates sbox.now sboxOf }
+    requires tabulates { Tabulates sbox.now sbox_of }
     ensures { result ≡ temp nk t i }
 {
     if i % 4 == 0 {

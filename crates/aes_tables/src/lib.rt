@@ -1,3 +1,4 @@
+#![tactic(auto)]
 // An engine: AES by FIPS 197 with two tables of 256 bytes, one for each way. A table is borrowed once for a block or a group, and lent
 // down to each step.
 pub mod sbox; // sbox.rt: the S-box

@@ -1,12 +1,12 @@
 // FIPS 197, 5.1 and 5.3: the S-box at each byte of a state, by its table, with ShiftRows or its inverse.
 ghost use Rattle.std.specs.Prelude.{◌≡◌};
-ghost use Rattle.fips197.specs.Sbox.{sbox as sboxOf, inv_sbox};
+ghost use Rattle.fips197.specs.Sbox.{sbox as sbox_of, inv_sbox};
 ghost use Rattle.fips197.specs.State.{sub_bytes, inv_sub_bytes, shift_rows, inv_shift_rows};
 ghost use Rattle.aes_tables.specs.Table.{Tabulates};
 
 // SubBytes and ShiftRows at once.
 pub(crate) fn sub_shift(s: [u8; 16], sbox: &[u8; 256]) -> [u8; 16]
-    requires { Tabulates sbox.now sboxOf }
+    requires { Tabulates sbox.now sbox_of }
     ensures { result ≡ shift_rows (sub_bytes s) }
 {
     let mut r = [0u8; 16];

@@ -2,18 +2,18 @@
 ghost use Rattle.std.specs.Prelude.{◌≡◌, length as length_of};
 ghost use Rattle.mode.specs.Mode.{by_cipher, by_sha1};
 ghost use Rattle.mode.specs.Aes.{aes};
-ghost use Rattle.mode.specs.Calls.{seal as sealOutcome, open_sealed, jump_mask, sha1_text};
+ghost use Rattle.mode.specs.Calls.{seal as seal_outcome, open_sealed, jump_mask, sha1_text};
 ghost use Rattle.balzenoh.specs.Exports.{lent_record, lent_tag, seal_run_bytes, check_run_bytes, join_bytes, join_list_bytes, close_bytes, test_bytes};
 ghost use Rattle.arbitrary.specs.Returned.{ReturnedAs, ReportedAs, ReportedRunAs};
 
 pub fn seal(key: &[u8], iv: &[u8], message: &[u8], out: &mut [u8], length: &mut usize) -> u8
-    ensures { ReportedAs (sealOutcome by_cipher aes key.now iv.now message.now (length_of out.old)) result length.new out.new }
+    ensures { ReportedAs (seal_outcome by_cipher aes key.now iv.now message.now (length_of out.old)) result length.new out.new }
 {
     balzenoh::message::balzenoh_seal(key, iv, message, out, length)
 }
 
 pub fn seal_sha1(key: &[u8], iv: &[u8], message: &[u8], out: &mut [u8], length: &mut usize) -> u8
-    ensures { ReportedAs (sealOutcome by_sha1 aes key.now iv.now message.now (length_of out.old)) result length.new out.new }
+    ensures { ReportedAs (seal_outcome by_sha1 aes key.now iv.now message.now (length_of out.old)) result length.new out.new }
 {
     balzenoh::message::balzenoh_seal_sha1(key, iv, message, out, length)
 }

@@ -1,3 +1,4 @@
+#![tactic(auto)]
 // The exported functions, and the joins of run records, called with any arguments. Nothing is asked of a caller here, and each function
 // ensures what comes back, by equations of its own: a function that asks something of its caller, or ensures less, is an error in this
 // crate.

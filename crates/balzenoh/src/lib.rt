@@ -1,3 +1,4 @@
+#![tactic(auto)]
 // The calls for programs in C and Rust: numbers and byte slices only. A slice is a pointer and a length there. Each function gives 0,
 // or the number of the refusal, and then everything lent to it is zero from end to end. A run record is 24 bytes.
 pub mod message; // message.rt: seal, open

@@ -1,3 +1,4 @@
+#![tactic(auto)]
 // Blocks of 16 bytes: the layer under the cipher and the mode, which knows of neither.
 pub mod block; // block.rt: exclusive or, comparison, load and store, zeros
 pub mod bytes; // bytes.rt: slices of any length

@@ -4,7 +4,7 @@ ghost use Rattle.blocks.specs.Bytes.{xor_bytes};
 ghost use Rattle.blocks.specs.Num.{num, low_bytes};
 ghost use Rattle.blocks.specs.Words.{bytes_of};
 
-#[derive(Drop)]
+#[derive(Clone, Copy)]
 pub struct Words {
     pub high: u64,
     pub low: u64,

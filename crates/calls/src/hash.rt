@@ -9,7 +9,7 @@ use mode::Written;
 fn sha1_refusal(text: &[u8], room: usize) -> u8
     ensures { result ≡ first_row (sha1_rows text.now room) }
 {
-    if sha1::LONGEST_TEXT < text.len() {
+    if fips180::LONGEST_TEXT < text.len() {
         return 3;
     }
     if room < 20 {
@@ -28,7 +28,7 @@ pub fn sha1(text: &[u8], out: &mut [u8]) -> Written
     if refusal != 0 {
         return Written { refusal, length: 0 };
     }
-    let digest = sha1::digest(text);
+    let digest = fips180::digest(text);
     blocks::bytes::put(out, 0, &digest);
     Written {
         refusal: 0,

@@ -5,7 +5,7 @@ ghost use Rattle.mode.specs.Mode.{sealed_record, finish_named};
 ghost use Rattle.fips197.specs.Aes.{KeyLength};
 ghost use Rattle.mode.specs.Aes.{aes};
 ghost use Rattle.mode.specs.Table.{first_row};
-ghost use Rattle.mode.specs.Calls.{seal_rows, seal as sealOf, written_of, written_given};
+ghost use Rattle.mode.specs.Calls.{seal_rows, seal as seal_of, written_of, written_given};
 ghost use Rattle.calls.specs.Work.{sealed_length};
 
 use mode::Written;
@@ -64,8 +64,8 @@ fn seal_into(finish: Finish, key: &[u8], iv: &[u8], message: &[u8], out: &mut [u
 
 // SEAL a message under a key and an IV: the sealed record is written to the front of the output.
 pub fn seal(finish: Finish, key: &[u8], iv: &[u8], message: &[u8], out: &mut [u8]) -> Written
-    ensures answer { result ≡ written_of (sealOf (finish_named finish) aes key.now iv.now message.now (length out.old)) }
-    ensures output { out.new ≡ (sealOf (finish_named finish) aes key.now iv.now message.now (length out.old)).output }
+    ensures answer { result ≡ written_of (seal_of (finish_named finish) aes key.now iv.now message.now (length out.old)) }
+    ensures output { out.new ≡ (seal_of (finish_named finish) aes key.now iv.now message.now (length out.old)).output }
 {
     blocks::block::clear(out);
     let refusal = seal_refusal(finish, key, iv, message, out.len());

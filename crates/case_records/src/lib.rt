@@ -1,3 +1,4 @@
+#![tactic(auto)]
 // Run records, tags and masks: what a case compares of them, and the lines of a table that join, close, test or jump.
 ghost use Rattle.std.specs.Prelude.{◌≤◌};
 

@@ -1,3 +1,4 @@
+#![tactic(auto)]
 // A table of cases in a data file. A line is a case: the name of a call, numbers and digits, and what the call gets. Lines that start with
 // `group` part the cases into groups; empty lines and those that start with # say nothing.
 ghost use Rattle.std.specs.Prelude.{◌≤◌};

@@ -1,3 +1,4 @@
+#![tactic(auto)]
 // What the case programs share that is plain bytes and text.
 pub mod bytes; // bytes.rt: parts of slices, and comparisons
 pub mod hex; // hex.rt: bytes from hexadecimal digits

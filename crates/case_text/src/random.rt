@@ -2,7 +2,7 @@
 ghost use Rattle.std.specs.Prelude.{◌<◌};
 
 // A generator: the state is added to itself, shifted, by exclusive or, three times. It starts from a number that is not 0.
-#[derive(Drop)]
+#[derive(Clone, Copy)]
 pub struct Random {
     pub state: u32,
 }

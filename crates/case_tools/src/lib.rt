@@ -1,3 +1,4 @@
+#![tactic(auto)]
 // What the case programs share that calls the library.
 pub mod aes; // aes.rt: the cipher, one block at a time
 pub mod call; // call.rt: one call into an output that held noise

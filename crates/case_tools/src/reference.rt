@@ -13,7 +13,7 @@ use mode::finish::Finish;
 const SEALED: usize = 192;
 
 // How many lines agreed, by what was tried: opened into a long output, and into one of the message's length.
-#[derive(Drop)]
+#[derive(Clone, Copy)]
 pub struct Agreed {
     pub sealed: usize,
     pub opened: usize,

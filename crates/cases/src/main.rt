@@ -1,3 +1,4 @@
+#![tactic(auto)]
 // The paper's vectors, reference records and damage, run against the proved library. Each line says how many cases of a group agreed.
 use case_table::run_file as run_table;
 use case_text::report;

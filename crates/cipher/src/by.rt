@@ -1,6 +1,6 @@
 // The face, by the number of an engine. A number that names no other engine names the byte tables.
 ghost use Rattle.std.specs.Prelude.{◌≡◌, ◌≤◌, length};
-ghost use Rattle.fips197.specs.Aes.{KeyLength, encrypt as encryptOf, decrypt as decryptOf};
+ghost use Rattle.fips197.specs.Aes.{KeyLength, encrypt as encrypt_of, decrypt as decrypt_of};
 ghost use Rattle.cipher.specs.Keys.{key_of, Expanded, Expands};
 ghost use Rattle.cipher.specs.Group.{Enciphered, Deciphered, Middletexts};
 
@@ -18,7 +18,7 @@ pub fn expand(engine: u8, key: &[u8]) -> [u8; crate::KEYS]
 // One block through the whole cipher.
 pub fn encrypt_block(engine: u8, block: [u8; 16], keys: &[u8; crate::KEYS]) -> [u8; 16]
     requires { Expanded keys.now }
-    ensures { result ≡ encryptOf (key_of keys.now) block }
+    ensures { result ≡ encrypt_of (key_of keys.now) block }
 {
     match engine {
         crate::ARITHMETIC => aes_arithmetic::block::encrypt(block, keys),
@@ -29,7 +29,7 @@ pub fn encrypt_block(engine: u8, block: [u8; 16], keys: &[u8; crate::KEYS]) -> [
 // The same undone.
 pub fn decrypt_block(engine: u8, block: [u8; 16], keys: &[u8; crate::KEYS]) -> [u8; 16]
     requires { Expanded keys.now }
-    ensures { result ≡ decryptOf (key_of keys.now) block }
+    ensures { result ≡ decrypt_of (key_of keys.now) block }
 {
     match engine {
         crate::ARITHMETIC => aes_arithmetic::block::decrypt(block, keys),

@@ -1,7 +1,8 @@
+#![tactic(auto)]
 // AES-128 and AES-256 as the mode takes them: a key schedule, one block, a group of blocks. Which engine does the work shows nowhere above this crate: its
 // contracts speak of FIPS 197 alone.
 ghost use Rattle.std.specs.Prelude.{◌≡◌, ◌≤◌, length, take};
-ghost use Rattle.fips197.specs.Aes.{KeyLength, not_key, encrypt as encryptOf, decrypt as decryptOf};
+ghost use Rattle.fips197.specs.Aes.{KeyLength, not_key, encrypt as encrypt_of, decrypt as decrypt_of};
 ghost use Rattle.cipher.specs.Keys.{key_of, Expanded, Expands};
 ghost use Rattle.cipher.specs.Group.{Enciphered, Deciphered, Middletexts};
 
@@ -45,7 +46,7 @@ pub fn key_block(keys: &[u8; KEYS]) -> [u8; 16]
 // One block through the whole cipher.
 pub fn encrypt_block(block: [u8; 16], keys: &[u8; KEYS]) -> [u8; 16]
     requires { Expanded keys.now }
-    ensures { result ≡ encryptOf (key_of keys.now) block }
+    ensures { result ≡ encrypt_of (key_of keys.now) block }
 {
     by::encrypt_block(ENGINE, block, keys)
 }
@@ -53,7 +54,7 @@ pub fn encrypt_block(block: [u8; 16], keys: &[u8; KEYS]) -> [u8; 16]
 // The same undone.
 pub fn decrypt_block(block: [u8; 16], keys: &[u8; KEYS]) -> [u8; 16]
     requires { Expanded keys.now }
-    ensures { result ≡ decryptOf (key_of keys.now) block }
+    ensures { result ≡ decrypt_of (key_of keys.now) block }
 {
     by::decrypt_block(ENGINE, block, keys)
 }

@@ -9,7 +9,7 @@ use mode::{RecordAnswer, RunRecord};
 
 // Runs 0 to `runs` - 1, of 8 at most. Run i starts at block `starts[i]`; the last one goes to the end. They are worked in the order
 // `order[0]`, `order[1]`, .., and joined as `random` says.
-#[derive(Drop)]
+#[derive(Clone, Copy)]
 pub struct Cut {
     pub runs: usize,
     pub starts: [usize; 8],
@@ -71,7 +71,7 @@ pub fn cut_of(seed: u32, count: usize) -> Cut
 // ---- one run
 
 // The bytes of a run: text from `from` to `to`, and room for it to `stop`.
-#[derive(Drop)]
+#[derive(Clone, Copy)]
 pub struct Span {
     pub first: u32,
     pub last: bool,
@@ -133,7 +133,7 @@ fn check_span(key: [u8; 16], iv: [u8; 16], s: Span, text: &[u8]) -> RecordAnswer
 // ---- all runs, in the order of the cut
 
 // The records of the runs, and whether each run was taken.
-#[derive(Drop)]
+#[derive(Clone, Copy)]
 struct Records {
     taken: bool,
     records: [RunRecord; 8],

@@ -12,7 +12,7 @@ use mode::{RecordAnswer, RunRecord};
 
 // How many messages agreed, by what was tried; the exclusive or of the tags, and of the last ciphertext blocks, of whole sealing. It is
 // given for one message, and for all.
-#[derive(Drop)]
+#[derive(Clone, Copy)]
 pub struct Agreed {
     pub sealed: usize,
     pub checked: usize,

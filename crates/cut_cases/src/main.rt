@@ -1,3 +1,4 @@
+#![tactic(auto)]
 // Seeded messages, sealed whole and cut into runs, run against the proved library. Each line says how many cases of a group agreed.
 use case_text::report;
 

@@ -1,8 +1,9 @@
+#![tactic(auto)]
 // Any two engines are equal: specs/Engines has the theorem. Here it is brought to the code. `equal` runs two engines on the same key, of 16 or 32 bytes, and the same
 // blocks and compares all that they give, and is proved to answer true for every two numbers and every input. Its contract would also be met by
 // a function that looks at nothing, so what is compared is to be read here.
 ghost use Rattle.std.specs.Prelude.{◌≡◌, true, ◌≤◌, length};
-ghost use Rattle.blocks.specs.Bytes.{same as sameOf, zeros};
+ghost use Rattle.blocks.specs.Bytes.{same as same_of, zeros};
 ghost use Rattle.groups.specs.Group.{block_at, in_front};
 ghost use Rattle.fips197.specs.Aes.{KeyLength};
 ghost use Rattle.cipher.specs.Keys.{Expanded};
@@ -12,7 +13,7 @@ ghost use Rattle.cipher.specs.Keys.{Expanded};
 // Whether two slices of one length have the same bytes.
 fn same(x: &[u8], y: &[u8]) -> bool
     requires { length x.now ≡ length y.now }
-    ensures { result ≡ sameOf x.now y.now }
+    ensures { result ≡ same_of x.now y.now }
 {
     let mut i: usize = 0;
     while i < x.len() {
@@ -27,7 +28,7 @@ fn same(x: &[u8], y: &[u8]) -> bool
 // Whether n blocks of two groups are the same.
 fn same_blocks(x: &[u64; groups::WORDS], y: &[u64; groups::WORDS], n: usize) -> bool
     requires { n ≤ 32 }
-    ensures { result ≡ sameOf (in_front n (block_at x.now) (zeros 512)) (in_front n (block_at y.now) (zeros 512)) }
+    ensures { result ≡ same_of (in_front n (block_at x.now) (zeros 512)) (in_front n (block_at y.now) (zeros 512)) }
 {
     let mut one = [0u8; 512];
     let mut other = [0u8; 512];

@@ -8,10 +8,10 @@ use Rattle.blocks.specs.Field.{step, times, mul}
 use Rattle.blocks.specs.Num.{num, low_bytes}
 use Rattle.blocks.specs.declared.words.Words.{Words}
 use Rattle.blocks.specs.Words.{bytes_of, words_of}
-use Rattle.gf128.specs.Gf128.{carry, shift_left, reduction, timesX, jump, low_bit, shift_right, overX, jump_by}
+use Rattle.gf128.specs.Gf128.{carry, shift_left, reduction, times_x, jump, low_bit, shift_right, over_x, jump_by}
 use Rattle.fips197.specs.Gf256.{power, inverse}
 use Rattle.fips197.specs.Sbox.{affine, sbox}
-use Rattle.sha1.proofs.Computed as Sha1
+use Rattle.fips180.proofs.Computed as Sha1
 use Rattle.mode.specs.declared.RunRecord.{RunRecord}
 use Rattle.mode.specs.Mode.{zero_block, blocks_of, padded, in_words, hashed_tag}
 use Rattle.mode.specs.Table.{given, decide, limit, not16, beyond_within, any_beyond_within, too_far_within, apart}
@@ -22,7 +22,7 @@ use Rattle.mode.proofs.Records.{joined-empty}
 use Rattle.examples.specs.Examples.{result, AllAgree, EmptyNeighbour, PaddedCount}
 
 pub all_agree : AllAgree
-unfolding result jump_mask outcome_by decide not16 too_far_within jump_by overX shift_right low_bit jump timesX shift_left carry reduction xor_bytes sbox affine inverse power mul times step blocks_of_run blocks_of first_blocks padded join_two any_beyond_within beyond_within apart joined num low_bytes bytes_of words_of hashed_tag Sha1.computed
+unfolding result jump_mask outcome_by decide not16 too_far_within jump_by over_x shift_right low_bit jump times_x shift_left carry reduction xor_bytes sbox affine inverse power mul times step blocks_of_run blocks_of first_blocks padded join_two any_beyond_within beyond_within apart joined num low_bytes bytes_of words_of hashed_tag Sha1.computed
 all_agree = refl
 
 -- neighbours within the limit are joined

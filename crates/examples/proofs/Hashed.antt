@@ -11,8 +11,8 @@ use lib.Bits.{bit_xor}
 use Rattle.blocks.specs.Words.{bytes_of}
 use Rattle.blocks.proofs.Test.{bytes_by}
 use Rattle.gf128.specs.Gf128.{jump}
-use Rattle.sha1.specs.Sha1.{sha1}
-use Rattle.sha1.proofs.Computed as Sha1
+use Rattle.fips180.specs.Sha1.{sha1}
+use Rattle.fips180.proofs.Computed as Sha1
 use Rattle.mode.specs.declared.RunRecord.{RunRecord}
 use Rattle.mode.specs.Mode.{in_words, Finish, by_cipher, by_sha1, key_block, start_mask, sealed_record}
 use Rattle.mode.specs.Table.{Answer, refused, given, decide}

@@ -4,10 +4,10 @@ use Rattle.std.specs.Prelude.{◌≡◌, List, [], ◌∷◌, ◌++◌, map, ℕ
 use Rattle.blocks.specs.Bytes.{zeros}
 use Rattle.blocks.specs.declared.words.Words.{Words}
 use Rattle.blocks.specs.Words.{Proper, bytes_of, words_of}
-use Rattle.gf128.specs.Gf128.{timesX}
+use Rattle.gf128.specs.Gf128.{times_x}
 use Rattle.fips197.specs.Sbox.{sbox}
 use Rattle.mode.specs.declared.RunRecord.{RunRecord}
-use Rattle.sha1.specs.Sha1.{sha1}
+use Rattle.fips180.specs.Sha1.{sha1}
 use Rattle.mode.specs.Mode.{in_words, by_sha1}
 use Rattle.mode.specs.Aes.{aes}
 use Rattle.mode.specs.Table.{Answer, given, limit}
@@ -38,7 +38,7 @@ pub data Result : Type 0 where
 -- what the formulas give; the jump is lent an output of 16 bytes
 unfoldable pub result : Question → Result
 result (jumps mask distance) = outcome (jump_mask mask distance 16)
-result (multiplies b) = block (timesX b)
+result (multiplies b) = block (times_x b)
 result (substitutes b) = byte (sbox b)
 result (pads message) = several (blocks_of_run last message)
 result (joins l r) = answer (join_two in_words l r)

@@ -15,9 +15,9 @@ use Rattle.blocks.proofs.Xor.{xor_assoc}
 use Rattle.blocks.proofs.Linear.{at_zero, bit-lt}
 use Rattle.blocks.proofs.Field.{step_linear, steps_linear, times_left}
 use Rattle.blocks.proofs.Bridge.{block-bytes_of, num-bytes_of}
-use Rattle.gf128.specs.Gf128.{timesX, product}
+use Rattle.gf128.specs.Gf128.{times_x, product}
 use Rattle.gf128.proofs.Squares.{times_more}
-use Rattle.gf128.proofs.NumX.{num-timesX}
+use Rattle.gf128.proofs.NumX.{num-times_x}
 use Rattle.gf128.proofs.Product.{product_is}
 use Rattle.gf128.proofs.Powers.{one_bit_less}
 
@@ -29,7 +29,7 @@ bit_fits bit x h f = record { fits = bit-lt (2 ^ 64) bit x h f.fits }
 bit-words : (bit h l : ℕ) → bit * h * 2 ^ 64 + bit * l ≡ bit * (h * 2 ^ 64 + l)
 bit-words bit h l = sym (mul-add bit (h * 2 ^ 64) l ∙ ap (λ (z : ℕ). z + bit * l) (sym (mul_assoc bit h (2 ^ 64))))
 
-pub bit_taken : (bit : ℕ) (r b t : Words) → bit < 2 → Proper b → Proper t → bytes_of t ≡ timesX (bytes_of r)
+pub bit_taken : (bit : ℕ) (r b t : Words) → bit < 2 → Proper b → Proper t → bytes_of t ≡ times_x (bytes_of r)
     → num (bytes_of (record { high = bit_xor (bit * b.high) t.high; low = bit_xor (bit * b.low) t.low }))
     ≡ bit_xor (bit * num (bytes_of b)) (step 127 0x87 (num (bytes_of r)))
 bit_taken bit r b t k hb ht e =
@@ -39,7 +39,7 @@ bit_taken bit r b t k hb ht e =
     (record { high = xor_lt 64 (bit * b.high) t.high bh ht.high; low = xor_lt 64 (bit * b.low) t.low bl ht.low })
     ∙ sym (xor_block 64 (bit * b.high) t.high (bit * b.low) t.low bl ht.low)
     ∙ ap₂ bit_xor (bit-words bit b.high b.low ∙ ap (λ (z : ℕ). bit * z) (sym (num-bytes_of b hb)))
-    (sym (num-bytes_of t ht) ∙ ap num e ∙ num-timesX (bytes_of r) (block-bytes_of r))
+    (sym (num-bytes_of t ht) ∙ ap num e ∙ num-times_x (bytes_of r) (block-bytes_of r))
 
 -- ---- a word, bit by bit
 

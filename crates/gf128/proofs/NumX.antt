@@ -12,7 +12,7 @@ use Rattle.blocks.specs.Bytes.{Bytes, Block, zeros}
 use Rattle.blocks.specs.Num.{num}
 use Rattle.blocks.specs.Field.{step, steps}
 use Rattle.blocks.proofs.Num.{wide, num-lt, num-append, num-xor_bytes}
-use Rattle.gf128.specs.Gf128.{carry, shift_left, reduction, timesX, jump}
+use Rattle.gf128.specs.Gf128.{carry, shift_left, reduction, times_x, jump}
 use Rattle.gf128.proofs.TimesX.{carry-lt, low_sum, length_shift, length-reduction, bytes_shift, bytes_reduction, block-jump}
 
 -- ---- a shift
@@ -59,13 +59,13 @@ module _ (b : List ℕ) (h : Block b) where
       sym (mod-eq_of_lt (carry-lt b))
       ∙ ap (λ (n : ℕ). n % 2) (sym (digits_div (carry b) shift_lt) ∙ ap (λ (n : ℕ). n / 2 ^ 128) shifted ∙ mul-div-mul_right (num b) (2 ^ 127) (lit< tt))
 
-  pub num-timesX : num (timesX b) ≡ step 127 0x87 (num b)
-  unfolding timesX step
-  num-timesX =
+  pub num-times_x : num (times_x b) ≡ step 127 0x87 (num b)
+  unfolding times_x step
+  num-times_x =
       num-xor_bytes (shift_left b) (reduction (carry b)) (length_shift b ∙ h.long ∙ sym (length-reduction (carry b))) (bytes_shift b) (bytes_reduction (carry b) (carry-lt b))
       ∙ ap₂ bit_xor num-low (num-reduction (carry b) ∙ ap (λ (n : ℕ). n * 0x87) num_top)
 
 pub num-jump : (n : ℕ) (b : List ℕ) → Block b → num (jump n b) ≡ steps 127 0x87 n (num b)
 unfolding jump steps
 num-jump zero b h = refl
-num-jump (suc n) b h = num-timesX (jump n b) (block-jump n b h) ∙ ap (step 127 0x87) (num-jump n b h)
+num-jump (suc n) b h = num-times_x (jump n b) (block-jump n b h) ∙ ap (step 127 0x87) (num-jump n b h)

@@ -10,8 +10,8 @@ use lib.ListN.{length, get_or}
 use Rattle.blocks.specs.Bytes.{Bytes, Block, xor_bytes}
 use Rattle.blocks.proofs.Xor.{two_pos, xor8}
 use Rattle.blocks.proofs.XorBytes.{length-xor, block-xor, get_or-xor, xor_bytes_cancel}
-use Rattle.gf128.specs.Gf128.{carry, shift_left, reduction, timesX, low_bit, shift_right, overX}
-use Rattle.gf128.proofs.TimesX.{carry-lt, carry_at, length_shift, length-reduction, bytes_reduction, low_sum, timesX_last, timesX-xor}
+use Rattle.gf128.specs.Gf128.{carry, shift_left, reduction, times_x, low_bit, shift_right, over_x}
+use Rattle.gf128.proofs.TimesX.{carry-lt, carry_at, length_shift, length-reduction, bytes_reduction, low_sum, times_x_last, times_x-xor}
 
 -- ---- blocks go to blocks
 
@@ -43,14 +43,14 @@ unfolding added
 block_added b h =
     block-xor b (reduction (low_bit b)) h (record { long = length-reduction (low_bit b); bytes = bytes_reduction (low_bit b) (low-lt b) })
 
-pub length-overX : (b : List ℕ) → length b ≡ 16 → length (overX b) ≡ 16
-unfolding overX added
-length-overX b e = length_right (low_bit b) (added b) ∙ length_added b e
+pub length-over_x : (b : List ℕ) → length b ≡ 16 → length (over_x b) ≡ 16
+unfolding over_x added
+length-over_x b e = length_right (low_bit b) (added b) ∙ length_added b e
 
-pub block-overX : (b : List ℕ) → Block b → Block (overX b)
-unfolding overX added
-block-overX b h =
-    record { long = length-overX b h.long; bytes = bytes_right (low_bit b) (added b) (low-lt b) (block_added b h).bytes }
+pub block-over_x : (b : List ℕ) → Block b → Block (over_x b)
+unfolding over_x added
+block-over_x b h =
+    record { long = length-over_x b h.long; bytes = bytes_right (low_bit b) (added b) (low-lt b) (block_added b h).bytes }
 
 -- ---- a byte
 
@@ -86,19 +86,19 @@ right_left (x ∷ a) h =
     (ap (λ (z : ℕ). shift_right (z % 2) (shift_left a)) (low_sum x t (carry-lt a)) ∙ ap (λ (z : ℕ). shift_right z (shift_left a)) e ∙ right_left a (λ i. h (suc i)))
 
 -- the bit that fell out is the low bit now, since 87 is odd
-low-timesX : (b : List ℕ) → Block b → low_bit (timesX b) ≡ carry b
+low-times_x : (b : List ℕ) → Block b → low_bit (times_x b) ≡ carry b
 unfolding low_bit
-low-timesX b h =
+low-times_x b h =
     let y = get_or b 15 0 in
     let c = get_or b 0 0 / 128 in
     let e : y * 2 % 256 % 2 ≡ 0 = omega arith in
     let f : c * 0x87 % 2 ≡ c = omega (arith, h.bytes 0) in
-    ap (λ (z : ℕ). z % 2) (sym (timesX_last b h)) ∙ xor_mod (y * 2 % 256) (c * 0x87) 1 ∙ ap₂ bit_xor e f ∙ xor_zero_l c ∙ sym (carry_at b h.bytes)
+    ap (λ (z : ℕ). z % 2) (sym (times_x_last b h)) ∙ xor_mod (y * 2 % 256) (c * 0x87) 1 ∙ ap₂ bit_xor e f ∙ xor_zero_l c ∙ sym (carry_at b h.bytes)
 
-pub over_times : (b : List ℕ) → Block b → overX (timesX b) ≡ b
-unfolding overX timesX
+pub over_times : (b : List ℕ) → Block b → over_x (times_x b) ≡ b
+unfolding over_x times_x
 over_times b h =
-    ap (λ (t : ℕ). shift_right t (xor_bytes (timesX b) (reduction t))) (low-timesX b h)
+    ap (λ (t : ℕ). shift_right t (xor_bytes (times_x b) (reduction t))) (low-times_x b h)
     ∙ ap (shift_right (carry b)) (xor_bytes_cancel (shift_left b) (reduction (carry b)) (length_shift b ∙ h.long ∙ sym (length-reduction (carry b))))
     ∙ right_left b h.bytes
 
@@ -134,8 +134,8 @@ even_added b h =
     ap (λ (z : ℕ). z % 2) (get_or-xor b (reduction (low_bit b)) 15 (h.long ∙ sym (length-reduction (low_bit b))))
     ∙ xor_mod y (y % 2 * 0x87) 1 ∙ ap (bit_xor (y % 2)) f ∙ xor_self (y % 2)
 
-pub times_over : (b : List ℕ) → Block b → timesX (overX b) ≡ b
-unfolding overX timesX added
+pub times_over : (b : List ℕ) → Block b → times_x (over_x b) ≡ b
+unfolding over_x times_x added
 times_over b h =
     let a = block_added b h in
     let t = low_bit b in
@@ -145,9 +145,9 @@ times_over b h =
 
 -- ---- through exclusive or
 
-pub overX-xor : (a b : List ℕ) → Block a → Block b → overX (xor_bytes a b) ≡ xor_bytes (overX a) (overX b)
-overX-xor a b ha hb =
-    let p = block-overX a ha in
-    let q = block-overX b hb in
-    sym (ap overX (timesX-xor (overX a) (overX b) (p.long ∙ sym q.long) ∙ ap₂ xor_bytes (times_over a ha) (times_over b hb)))
-    ∙ over_times (xor_bytes (overX a) (overX b)) (block-xor (overX a) (overX b) p q)
+pub over_x-xor : (a b : List ℕ) → Block a → Block b → over_x (xor_bytes a b) ≡ xor_bytes (over_x a) (over_x b)
+over_x-xor a b ha hb =
+    let p = block-over_x a ha in
+    let q = block-over_x b hb in
+    sym (ap over_x (times_x-xor (over_x a) (over_x b) (p.long ∙ sym q.long) ∙ ap₂ xor_bytes (times_over a ha) (times_over b hb)))
+    ∙ over_times (xor_bytes (over_x a) (over_x b)) (block-xor (over_x a) (over_x b) p q)

@@ -12,9 +12,9 @@ use Rattle.blocks.specs.Num.{num}
 use Rattle.blocks.proofs.Field.{mul_right, mul-one, mul_comm, mul_assoc, mul-lt, mul-steps}
 use Rattle.blocks.proofs.XorBytes.{block-xor, xor_bytes_self}
 use Rattle.blocks.proofs.Num.{same_block, block-lt, block-low_bytes, num-low_bytes_lem, num-xor}
-use Rattle.gf128.specs.Gf128.{jump, overX, jump_by, product, one, power}
+use Rattle.gf128.specs.Gf128.{jump, over_x, jump_by, product, one, power}
 use Rattle.gf128.proofs.TimesX.{block-jump, block-zero, block_one}
-use Rattle.gf128.proofs.OverX.{block-overX, over_times, times_over}
+use Rattle.gf128.proofs.OverX.{block-over_x, over_times, times_over}
 use Rattle.gf128.proofs.JumpBy.{block-jump_by}
 use Rattle.gf128.proofs.NumX.{num-jump}
 
@@ -76,18 +76,18 @@ product-jump n a b hb =
     (num-product a (jump n b) (block-jump n b hb) ∙ ap (mul 127 0x87 (num a)) (num-jump n b hb) ∙ mul-steps 127 0x87 n (num a) (num b)
     ∙ sym (num-jump n (product a b) (block-product a b) ∙ ap (steps 127 0x87 n) (num-product a b hb)))
 
-product-overX : (a b : List ℕ) → Block b → product a (overX b) ≡ overX (product a b)
+product-over_x : (a b : List ℕ) → Block b → product a (over_x b) ≡ over_x (product a b)
 unfolding jump
-product-overX a b hb =
-    sym (over_times (product a (overX b)) (block-product a (overX b)))
-    ∙ ap overX (sym (product-jump 1 a (overX b) (block-overX b hb)) ∙ ap (product a) (times_over b hb))
+product-over_x a b hb =
+    sym (over_times (product a (over_x b)) (block-product a (over_x b)))
+    ∙ ap over_x (sym (product-jump 1 a (over_x b) (block-over_x b hb)) ∙ ap (product a) (times_over b hb))
 
 pub product-jump_by : (d : ℤ) (a b : List ℕ) → Block b → product a (jump_by d b) ≡ jump_by d (product a b)
 unfolding jump_by
 product-jump_by (pos n) a b hb = product-jump n a b hb
-product-jump_by (negsuc zero) a b hb = product-overX a b hb
+product-jump_by (negsuc zero) a b hb = product-over_x a b hb
 product-jump_by (negsuc (suc n)) a b hb =
-    product-overX a (jump_by (negsuc n) b) (block-jump_by (negsuc n) b hb) ∙ ap overX (product-jump_by (negsuc n) a b hb)
+    product-over_x a (jump_by (negsuc n) b) (block-jump_by (negsuc n) b hb) ∙ ap over_x (product-jump_by (negsuc n) a b hb)
 
 -- the product with x^d is the jump by d
 pub product-power : (d : ℤ) (b : List ℕ) → Block b → product (power d) b ≡ jump_by d b

@@ -12,7 +12,7 @@ use Rattle.blocks.proofs.Test.{bytes_by}
 use Rattle.blocks.proofs.Xor.{two_pos, bit-xor, xor_swap, xor8}
 use Rattle.blocks.proofs.Linear.{double, scale_bit}
 use Rattle.blocks.proofs.XorBytes.{length-xor, bytes_xor, get_or-xor, xor_bytes_self, xor_bytes_swap}
-use Rattle.gf128.specs.Gf128.{carry, shift_left, reduction, timesX, jump, one}
+use Rattle.gf128.specs.Gf128.{carry, shift_left, reduction, times_x, jump, one}
 
 pub carry-lt : (a : List ℕ) → carry a < 2
 unfolding carry
@@ -30,9 +30,9 @@ pub length-reduction : (bit : ℕ) → length (reduction bit) ≡ 16
 unfolding reduction
 length-reduction bit = refl
 
-pub length-timesX : (b : List ℕ) → length b ≡ 16 → length (timesX b) ≡ 16
-unfolding timesX
-length-timesX b e = length-xor (shift_left b) (reduction (carry b)) (length_shift b ∙ e ∙ sym (length-reduction (carry b))) ∙ length_shift b ∙ e
+pub length-times_x : (b : List ℕ) → length b ≡ 16 → length (times_x b) ≡ 16
+unfolding times_x
+length-times_x b e = length-xor (shift_left b) (reduction (carry b)) (length_shift b ∙ e ∙ sym (length-reduction (carry b))) ∙ length_shift b ∙ e
 
 pub bytes_shift : (a : List ℕ) → Bytes (shift_left a)
 unfolding shift_left
@@ -46,22 +46,22 @@ bytes_reduction zero h = bytes_by (zeros 15 ++ (0 ∷ [])) tt
 bytes_reduction (suc zero) h = bytes_by (zeros 15 ++ (0x87 ∷ [])) tt
 bytes_reduction (suc (suc bit)) h = absurd (omega arith)
 
-pub block-timesX : (b : List ℕ) → length b ≡ 16 → Block (timesX b)
-unfolding timesX
-block-timesX b e = record {
-  long = length-timesX b e;
+pub block-times_x : (b : List ℕ) → length b ≡ 16 → Block (times_x b)
+unfolding times_x
+block-times_x b e = record {
+  long = length-times_x b e;
   bytes = bytes_xor (shift_left b) (reduction (carry b)) (length_shift b ∙ e ∙ sym (length-reduction (carry b))) (bytes_shift b) (bytes_reduction (carry b) (carry-lt b));
 }
 
 pub length-jump : (n : ℕ) (b : List ℕ) → length b ≡ 16 → length (jump n b) ≡ 16
 unfolding jump
 length-jump zero b e = e
-length-jump (suc n) b e = length-timesX (jump n b) (length-jump n b e)
+length-jump (suc n) b e = length-times_x (jump n b) (length-jump n b e)
 
 pub block-jump : (n : ℕ) (b : List ℕ) → Block b → Block (jump n b)
 unfolding jump
 block-jump zero b h = h
-block-jump (suc n) b h = block-timesX (jump n b) (block-jump n b h).long
+block-jump (suc n) b h = block-times_x (jump n b) (block-jump n b h).long
 
 pub block-zero : Block (zeros 16)
 block-zero = record { long = refl; bytes = bytes_by (zeros 16) tt }
@@ -94,9 +94,9 @@ reduction-xor : (s t : ℕ) → s < 2 → t < 2 → reduction (bit_xor s t) ≡ 
 unfolding reduction xor_bytes
 reduction-xor s t hs ht = ap (λ (z : ℕ). zeros 15 ++ (z ∷ [])) (ap (λ (z : ℕ). z * 0x87) (sym (bit-xor s t hs ht)) ∙ scale_bit 0x87 s t hs ht)
 
-pub timesX-xor : (a b : List ℕ) → length a ≡ length b → timesX (xor_bytes a b) ≡ xor_bytes (timesX a) (timesX b)
-unfolding timesX
-timesX-xor a b e =
+pub times_x-xor : (a b : List ℕ) → length a ≡ length b → times_x (xor_bytes a b) ≡ xor_bytes (times_x a) (times_x b)
+unfolding times_x
+times_x-xor a b e =
     ap₂ xor_bytes (shift_xor a b e) (ap reduction (carry-xor a b e) ∙ reduction-xor (carry a) (carry b) (carry-lt a) (carry-lt b))
     ∙ xor_bytes_swap (shift_left a) (shift_left b) (reduction (carry a)) (reduction (carry b))
 
@@ -104,7 +104,7 @@ pub jump-xor : (n : ℕ) (a b : List ℕ) → length a ≡ 16 → length b ≡ 1
 unfolding jump
 jump-xor zero a b ea eb = refl
 jump-xor (suc n) a b ea eb =
-    ap timesX (jump-xor n a b ea eb) ∙ timesX-xor (jump n a) (jump n b) (length-jump n a ea ∙ sym (length-jump n b eb))
+    ap times_x (jump-xor n a b ea eb) ∙ times_x-xor (jump n a) (jump n b) (length-jump n a ea ∙ sym (length-jump n b eb))
 
 -- zero stays zero
 pub jump-zero : (n : ℕ) → jump n (zeros 16) ≡ zeros 16
@@ -116,7 +116,7 @@ jump-zero n = jump-xor n (zeros 16) (zeros 16) refl refl ∙ xor_bytes_self (jum
 pub jump-add : (n m : ℕ) (b : List ℕ) → jump (n + m) b ≡ jump n (jump m b)
 unfolding jump
 jump-add zero m b = ap (λ (z : ℕ). jump z b) (zero-add m)
-jump-add (suc n) m b = ap (λ (z : ℕ). jump z b) (suc-add n m) ∙ ap timesX (jump-add n m b)
+jump-add (suc n) m b = ap (λ (z : ℕ). jump z b) (suc-add n m) ∙ ap times_x (jump-add n m b)
 
 -- ---- each byte: its seven low bits, and the top bit of the next byte
 
@@ -135,18 +135,18 @@ get_or_shift [] i h = refl
 get_or_shift (x ∷ b) zero h = ap (bit_xor (x * 2 % 256)) (carry_at b (λ i. h (suc i)))
 get_or_shift (x ∷ b) (suc i) h = get_or_shift b i (λ j. h (suc j))
 
-get_or-timesX : (b : List ℕ) (i : ℕ) → Block b
-    → get_or (timesX b) i 0 ≡ bit_xor (bit_xor (get_or b i 0 * 2 % 256) (get_or b (suc i) 0 / 128)) (get_or (reduction (get_or b 0 0 / 128)) i 0)
-unfolding timesX
-get_or-timesX b i h =
+get_or-times_x : (b : List ℕ) (i : ℕ) → Block b
+    → get_or (times_x b) i 0 ≡ bit_xor (bit_xor (get_or b i 0 * 2 % 256) (get_or b (suc i) 0 / 128)) (get_or (reduction (get_or b 0 0 / 128)) i 0)
+unfolding times_x
+get_or-times_x b i h =
     get_or-xor (shift_left b) (reduction (carry b)) i (length_shift b ∙ h.long ∙ sym (length-reduction (carry b)))
     ∙ ap₂ (λ (x t : ℕ). bit_xor x (get_or (reduction t) i 0)) (get_or_shift b i h.bytes) (carry_at b h.bytes)
 
 -- the last byte, with 87 where a one fell out
-pub timesX_last : (b : List ℕ) → Block b → bit_xor (get_or b 15 0 * 2 % 256) (get_or b 0 0 / 128 * 0x87) ≡ get_or (timesX b) 15 0
+pub times_x_last : (b : List ℕ) → Block b → bit_xor (get_or b 15 0 * 2 % 256) (get_or b 0 0 / 128 * 0x87) ≡ get_or (times_x b) 15 0
 unfolding reduction
-timesX_last b h =
+times_x_last b h =
     let z : get_or b 16 0 ≡ 0 = get_or-eq_default b 0 {n = 16} (le_of_eq h.long) in
-    sym (get_or-timesX b 15 h
+    sym (get_or-times_x b 15 h
     ∙ ap (λ (k : ℕ). bit_xor (bit_xor (get_or b 15 0 * 2 % 256) (k / 128)) (get_or b 0 0 / 128 * 0x87)) z
     ∙ ap (λ (k : ℕ). bit_xor k (get_or b 0 0 / 128 * 0x87)) (xor_zero_r (get_or b 15 0 * 2 % 256)))

@@ -11,20 +11,20 @@ use Rattle.blocks.specs.Words.{Proper, bytes_of}
 use Rattle.blocks.specs.declared.words.Words.{Words}
 use Rattle.blocks.proofs.Xor.{two_pos, xor_assoc}
 use Rattle.blocks.proofs.Bridge.{same-words, block-bytes_of, num-bytes_of, bytes_by_num}
-use Rattle.gf128.specs.Gf128.{timesX, overX}
-use Rattle.gf128.proofs.TimesX.{block-timesX}
+use Rattle.gf128.specs.Gf128.{times_x, over_x}
+use Rattle.gf128.proofs.TimesX.{block-times_x}
 use Rattle.gf128.proofs.OverX.{over_times}
-use Rattle.gf128.proofs.NumX.{num-timesX}
+use Rattle.gf128.proofs.NumX.{num-times_x}
 
 -- ---- multiply by x
 
 -- the upper word: the lower one's top bit comes in
-abbrev pub upX : ℕ → ℕ → ℕ
-upX h l = bit_xor (h * 2 % 2 ^ 64) (l / 2 ^ 63)
+abbrev pub up_x : ℕ → ℕ → ℕ
+up_x h l = bit_xor (h * 2 % 2 ^ 64) (l / 2 ^ 63)
 
 -- the lower word: the bit that fell out selects 87
-abbrev pub lowX : ℕ → ℕ → ℕ
-lowX h l = bit_xor (l * 2 % 2 ^ 64) (h / 2 ^ 63 * 0x87)
+abbrev pub low_x : ℕ → ℕ → ℕ
+low_x h l = bit_xor (l * 2 % 2 ^ 64) (h / 2 ^ 63 * 0x87)
 
 low_even : (h : ℕ) → h * 2 % 2 ^ 64 ≡ h % 2 ^ 63 * 2
 low_even h = omega arith
@@ -57,29 +57,29 @@ top_words h l hh hl =
     let e : h / 2 ^ 63 % 2 ≡ h / 2 ^ 63 = omega arith in
     ap (λ (z : ℕ). z % 2) (sym (shr-shr (h * 2 ^ 64 + l) 64 63) ∙ ap (λ (z : ℕ). z / 2 ^ 63) (high h 64 hl)) ∙ e
 
-step_words : (h l : ℕ) → h < 2 ^ 64 → l < 2 ^ 64 → upX h l * 2 ^ 64 + lowX h l ≡ step 127 0x87 (h * 2 ^ 64 + l)
+step_words : (h l : ℕ) → h < 2 ^ 64 → l < 2 ^ 64 → up_x h l * 2 ^ 64 + low_x h l ≡ step 127 0x87 (h * 2 ^ 64 + l)
 unfolding step
 step_words h l hh hl =
     let u = h * 2 % 2 ^ 64 + l / 2 ^ 63 in
     let c : l / 2 ^ 63 < 2 = omega arith in
     let k : h / 2 ^ 63 * 0x87 < 2 ^ 64 = omega arith in
-    ap (λ (z : ℕ). z * 2 ^ 64 + lowX h l) (up_sum h (l / 2 ^ 63) c ∙ sym (xor_zero_r u))
+    ap (λ (z : ℕ). z * 2 ^ 64 + low_x h l) (up_sum h (l / 2 ^ 63) c ∙ sym (xor_zero_r u))
     ∙ sym (xor_block 64 u 0 (l * 2 % 2 ^ 64) (h / 2 ^ 63 * 0x87) (mod-lt (l * 2) (lit< tt)) k)
     ∙ ap₂ bit_xor (sym (low_double h l hl)) (zero-add (h / 2 ^ 63 * 0x87) ∙ ap (λ (z : ℕ). z * 0x87) (sym (top_words h l hh hl)))
 
-pub timesX-words : (w : Words) → Proper w → bytes_of (record { high = upX w.high w.low; low = lowX w.high w.low }) ≡ timesX (bytes_of w)
-timesX-words w p =
+pub times_x-words : (w : Words) → Proper w → bytes_of (record { high = up_x w.high w.low; low = low_x w.high w.low }) ≡ times_x (bytes_of w)
+times_x-words w p =
     let h = w.high in
     let l = w.low in
     let hh : h < 2 ^ 64 = p.high in
     let hl : l < 2 ^ 64 = p.low in
-    bytes_by_num (record { high = upX h l; low = lowX h l }) (timesX (bytes_of w))
+    bytes_by_num (record { high = up_x h l; low = low_x h l }) (times_x (bytes_of w))
     (record {
       high = xor_lt 64 (h * 2 % 2 ^ 64) (l / 2 ^ 63) (mod-lt (h * 2) (lit< tt)) (omega arith);
       low = xor_lt 64 (l * 2 % 2 ^ 64) (h / 2 ^ 63 * 0x87) (mod-lt (l * 2) (lit< tt)) (omega arith);
     })
-    (block-timesX (bytes_of w) (block-bytes_of w).long)
-    (step_words h l hh hl ∙ sym (num-timesX (bytes_of w) (block-bytes_of w) ∙ ap (step 127 0x87) (num-bytes_of w p)))
+    (block-times_x (bytes_of w) (block-bytes_of w).long)
+    (step_words h l hh hl ∙ sym (num-times_x (bytes_of w) (block-bytes_of w) ∙ ap (step 127 0x87) (num-bytes_of w p)))
 
 -- ---- divide by x: multiplying gives the words back
 
@@ -130,21 +130,21 @@ module _ (h l : ℕ) (hh : h < 2 ^ 64) (hl : l < 2 ^ 64) where
   low_over_lem =
       ap (λ (z : ℕ). bit_xor z (bit_xor l (l % 2 * 0x87) / 2)) (to_top h) ∙ xor_shifted (h % 2) 63 (bit_xor l (l % 2 * 0x87) / 2) half_lt
 
-  up_back : upX (up_over h l) (low_over h l) ≡ h
+  up_back : up_x (up_over h l) (low_over h l) ≡ h
   up_back =
       let k : half < 2 ^ 63 = half_lt in
       let q : h / 2 < 2 ^ 63 = omega arith in
       let f : (h % 2 * 2 ^ 63 + half) / 2 ^ 63 ≡ h % 2 = omega arith in
       let g : h / 2 * 2 + h % 2 ≡ h = omega arith in
-      ap₂ upX up_over_lem low_over_lem ∙ ap₂ bit_xor (from_top (l % 2) (h / 2) q) f ∙ xor_shifted (h / 2) 1 (h % 2) (mod-lt h two_pos) ∙ g
+      ap₂ up_x up_over_lem low_over_lem ∙ ap₂ bit_xor (from_top (l % 2) (h / 2) q) f ∙ xor_shifted (h / 2) 1 (h % 2) (mod-lt h two_pos) ∙ g
 
-  low_back : lowX (up_over h l) (low_over h l) ≡ l
+  low_back : low_x (up_over h l) (low_over h l) ≡ l
   unfolding half
   low_back =
       let k : half < 2 ^ 63 = half_lt in
       let p = l % 2 * 0x87 in
       let f : (l % 2 * 2 ^ 63 + h / 2) / 2 ^ 63 ≡ l % 2 = omega arith in
-      ap₂ lowX up_over_lem low_over_lem ∙ ap₂ (λ (x y : ℕ). bit_xor x (y * 0x87)) (from_top (h % 2) half half_lt ∙ even l) f
+      ap₂ low_x up_over_lem low_over_lem ∙ ap₂ (λ (x y : ℕ). bit_xor x (y * 0x87)) (from_top (h % 2) half half_lt ∙ even l) f
       ∙ xor_assoc l p p ∙ ap (bit_xor l) (xor_self p) ∙ xor_zero_r l
 
   over_lt : Proper (record { high = up_over h l; low = low_over h l })
@@ -155,13 +155,13 @@ module _ (h l : ℕ) (hh : h < 2 ^ 64) (hl : l < 2 ^ 64) where
         low = xor_lt 64 (h * 2 ^ 63 % 2 ^ 64) (bit_xor l (l % 2 * 0x87) / 2) (mod-lt (h * 2 ^ 63) (lit< tt)) (let k : half < 2 ^ 63 = half_lt in omega arith);
       }
 
-pub overX-words : (w : Words) → Proper w → bytes_of (record { high = up_over w.high w.low; low = low_over w.high w.low }) ≡ overX (bytes_of w)
-overX-words w p =
+pub over_x-words : (w : Words) → Proper w → bytes_of (record { high = up_over w.high w.low; low = low_over w.high w.low }) ≡ over_x (bytes_of w)
+over_x-words w p =
     let h = w.high in
     let l = w.low in
     let r : Words = record { high = up_over h l; low = low_over h l } in
-    let back : Words = record { high = upX r.high r.low; low = lowX r.high r.low } in
+    let back : Words = record { high = up_x r.high r.low; low = low_x r.high r.low } in
     sym (over_times (bytes_of r) (block-bytes_of r))
-    ∙ ap overX
-    (sym (timesX-words r (over_lt h l p.high p.low))
+    ∙ ap over_x
+    (sym (times_x-words r (over_lt h l p.high p.low))
     ∙ ap bytes_of (same-words back w (up_back h l p.high p.low) (low_back h l p.high p.low)))

@@ -21,13 +21,13 @@ unfoldable pub reduction : ℕ → List ℕ
 reduction bit = zeros 15 ++ (bit * 0x87 ∷ [])
 
 -- Multiply by the variable: shift the whole left by one bit; if a one fell out, add 87 to the last byte by exclusive or.
-unfoldable pub timesX : List ℕ → List ℕ
-timesX b = xor_bytes (shift_left b) (reduction (carry b))
+unfoldable pub times_x : List ℕ → List ℕ
+times_x b = xor_bytes (shift_left b) (reduction (carry b))
 
 -- the jump by n blocks: n times that
 unfoldable pub jump : ℕ → List ℕ → List ℕ
 jump zero b = b
-jump (suc n) b = timesX (jump n b)
+jump (suc n) b = times_x (jump n b)
 
 -- ---- back
 
@@ -42,14 +42,14 @@ shift_right top (x ∷ b) = bit_xor (top * 128) (x / 2) ∷ shift_right (x % 2) 
 
 -- Divide by the variable: where the low bit is set, add the polynomial first, then shift right. The polynomial is the one of degree 128,
 -- so its top bit stands above the first byte, and comes in at the shift.
-unfoldable pub overX : List ℕ → List ℕ
-overX b = shift_right (low_bit b) (xor_bytes b (reduction (low_bit b)))
+unfoldable pub over_x : List ℕ → List ℕ
+over_x b = shift_right (low_bit b) (xor_bytes b (reduction (low_bit b)))
 
 -- THE SIGNED JUMP: by n blocks the jump above; by -n, n divisions (`negsuc n` is -(n + 1))
 unfoldable pub jump_by : ℤ → List ℕ → List ℕ
 jump_by (pos n) b = jump n b
-jump_by (negsuc zero) b = overX b
-jump_by (negsuc (suc n)) b = overX (jump_by (negsuc n) b)
+jump_by (negsuc zero) b = over_x b
+jump_by (negsuc (suc n)) b = over_x (jump_by (negsuc n) b)
 
 -- a distance by its direction and its number of blocks
 unfoldable pub signed : Bool → ℕ → ℤ

@@ -1,3 +1,4 @@
+#![tactic(auto)]
 // A block as a polynomial over GF(2) of degree below 128, modulo x^128 + x^7 + x^2 + x + 1, in two words: the top bit of the upper word is
 // the coefficient of x^127. Each contract is about the bytes of the words, by document 01's formulas over bytes.
 ghost use Rattle.std.specs.Prelude.{◌≡◌, ◌*◌, ◌/◌, ◌^◌, ◌≤◌, ◌<◌, nat_abs};
@@ -5,14 +6,14 @@ ghost use Rattle.std.specs.Int.Bits.{bit_xor};
 ghost use Rattle.blocks.specs.Field.{step, steps, times};
 ghost use Rattle.blocks.specs.Num.{num};
 ghost use Rattle.blocks.specs.Words.{bytes_of};
-ghost use Rattle.gf128.specs.Gf128.{timesX, overX, jump as jumpOf, jump_by, signed, product, power as power_of};
+ghost use Rattle.gf128.specs.Gf128.{times_x, over_x, jump as jump_of, jump_by, signed, product, power as power_of};
 ghost use Rattle.gf128.specs.Spread.{spread as spread_of};
 
 use blocks::words::Words;
 
 // A block times x: the upper word takes the top bit of the lower, and the bit that falls out selects 87.
 pub fn times_x(b: Words) -> Words
-    ensures { bytes_of result ≡ timesX (bytes_of b) }
+    ensures { bytes_of result ≡ times_x (bytes_of b) }
 {
     Words {
         high: (b.high << 1) ^ (b.low >> 63),
@@ -23,7 +24,7 @@ pub fn times_x(b: Words) -> Words
 // A block over x. Where its low bit is set the polynomial is added first: 87 to the lower word, and a one above the upper. Then the lower
 // word takes the low bit of the upper.
 pub fn over_x(b: Words) -> Words
-    ensures { bytes_of result ≡ overX (bytes_of b) }
+    ensures { bytes_of result ≡ over_x (bytes_of b) }
 {
     let odd = b.low % 2;
     Words {
@@ -97,7 +98,7 @@ fn spread(x: u64) -> u64
 
 // A block times x^64: the lower word moves up, and the upper one, times x^128, which is x^7 + x^2 + x + 1, is added.
 fn times_x64(b: Words) -> Words
-    ensures { bytes_of result ≡ jumpOf 64 (bytes_of b) }
+    ensures { bytes_of result ≡ jump_of 64 (bytes_of b) }
 {
     let h = b.high;
     Words {
@@ -176,7 +177,7 @@ fn jump_towards(b: Words, n: u32, back: bool) -> Words
 
 // The block b, multiplied by x n times.
 pub fn jump(b: Words, n: u32) -> Words
-    ensures { bytes_of result ≡ jumpOf n (bytes_of b) }
+    ensures { bytes_of result ≡ jump_of n (bytes_of b) }
 {
     jump_towards(b, n, false)
 }

@@ -1,3 +1,4 @@
+#![tactic(auto)]
 // Groups: up to 32 blocks in an array of 64-bit words, two to a block. Each function works on the first n blocks of a group.
 ghost use Rattle.std.specs.Prelude.{◌≡◌, ◌*◌, ◌<◌, ◌≤◌, length};
 ghost use Rattle.blocks.specs.Bytes.{xor_bytes};

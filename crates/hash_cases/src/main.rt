@@ -1,3 +1,4 @@
+#![tactic(auto)]
 // The hash finish (ticket P4), run against the proved library. Each line says how many cases of a group agreed.
 use case_table::run_file as run_table;
 use case_text::report;

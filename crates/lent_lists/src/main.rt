@@ -1,3 +1,4 @@
+#![tactic(auto)]
 // Lists of none to three run records, lent to the join of a list: lists that join, and the table's rows for a list. Each line says how
 // many cases of a group agreed.
 ghost use Rattle.std.specs.Prelude.{◌≡◌, ◌≤◌, take};

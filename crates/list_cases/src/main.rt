@@ -1,3 +1,4 @@
+#![tactic(auto)]
 // Lists of run records, joined one by one as the join of a lent list does it: lists that join, and the table's rows for a list; and masks
 // and pre-authenticators in words. Each line says how many cases of a group agreed.
 ghost use Rattle.std.specs.Prelude.{◌≤◌};

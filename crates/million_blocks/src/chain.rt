@@ -7,7 +7,7 @@ use case_tools::call::run_into;
 use mode::RunRecord;
 
 // The last ciphertext block, which is the next block of the message, and the record of the blocks so far.
-#[derive(Drop)]
+#[derive(Clone, Copy)]
 pub struct Link {
     pub block: [u8; 16],
     pub run: RunRecord,

@@ -1,3 +1,4 @@
+#![tactic(auto)]
 // The second vector of the mode's paper, all 1,000,000 blocks, run against the proved library. Each line says how many cases of a group agreed.
 use crate::whole::Whole;
 use case_text::{paper, report};

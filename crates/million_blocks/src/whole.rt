@@ -9,7 +9,7 @@ use mode::RunRecord;
 
 // What blocks have come to: the last one, its ciphertext, which is the next block of the message, and their record; and how much of their runs
 // agreed, sealed again and checked. It is given for one run, and for all so far.
-#[derive(Drop)]
+#[derive(Clone, Copy)]
 pub struct Whole {
     pub block: [u8; 16],
     pub next: [u8; 16],

@@ -12,8 +12,8 @@ use lib.Seq.{ext_get_or}
 use Rattle.blocks.specs.Bytes.{Bytes, Block, xor_bytes}
 use Rattle.blocks.proofs.XorBytes.{xor_bytes_comm, xor_bytes_injective, block-xor}
 use Rattle.blocks.proofs.Bridge.{same_bytes}
-use Rattle.gf128.specs.Gf128.{timesX, jump}
-use Rattle.gf128.proofs.TimesX.{block-zero, block-timesX, block-jump, length-jump}
+use Rattle.gf128.specs.Gf128.{times_x, jump}
+use Rattle.gf128.proofs.TimesX.{block-zero, block-times_x, block-jump, length-jump}
 use Rattle.gf128.proofs.JumpBy.{jump_injective}
 use Rattle.fips197.specs.Aes.{Key}
 use Rattle.mode.specs.Mode.{Cipher, Lawful, Finish, LawfulFinish, Source, plaintext, ciphertext, RunRecord, in_words, zero_block, blocks_of, padded, start_mask, middletext, pass, unbroken, iv_part, cipher_part}
@@ -52,7 +52,7 @@ module _ (c : Cipher) (laws : Lawful c) (key : List ℕ) (kb : Key key) where
   sealed_at [] mask i l = absurd (omega arith)
   sealed_at (b ∷ bs) mask zero l = refl
   sealed_at (b ∷ bs) mask (suc i) l =
-      sealed_at bs (timesX mask) i (omega arith) ∙ ap (λ (m : List ℕ). cipher_block c laws key kb m (get_or bs i [])) (jump_next i mask)
+      sealed_at bs (times_x mask) i (omega arith) ∙ ap (λ (m : List ℕ). cipher_block c laws key kb m (get_or bs i [])) (jump_next i mask)
 
   cipher_injective : (mask a b : List ℕ) → Block mask → Block a → Block b → cipher_block c laws key kb mask a ≡ cipher_block c laws key kb mask b → a ≡ b
   cipher_injective mask a b hm ha hb e =
@@ -110,21 +110,21 @@ module _ (c : Cipher) (laws : Lawful c) (key : List ℕ) (kb : Key key) where
 
     -- the value after one block more
     next : List ℕ → List ℕ → List ℕ → List ℕ
-    next mask p b = xor_bytes (timesX p) (middletext c s key mask b)
+    next mask p b = xor_bytes (times_x p) (middletext c s key mask b)
 
     next_block : (mask p b : List ℕ) → Block mask → Block p → Block b → Block (next mask p b)
     unfolding next
-    next_block mask p b hm hp hb = block-xor (timesX p) (middletext c s key mask b) (block-timesX p hp.long) (middle_block c laws key kb s mask b hm hb)
+    next_block mask p b hm hp hb = block-xor (times_x p) (middletext c s key mask b) (block-times_x p hp.long) (middle_block c laws key kb s mask b hm hb)
 
     next_injective : (mask p a b : List ℕ) → Block mask → Block p → Block a → Block b → next mask p a ≡ next mask p b → a ≡ b
     unfolding next
     next_injective mask p a b hm hp ha hb e =
         let u = middletext c s key mask a in
         let v = middletext c s key mask b in
-        let x = (block-timesX p hp.long).long in
+        let x = (block-times_x p hp.long).long in
         middle_injective s mask a b hm ha hb
-        (xor_bytes_injective u v (timesX p) ((middle_block c laws key kb s mask a hm ha).long ∙ sym x) ((middle_block c laws key kb s mask b hm hb).long ∙ sym x)
-        (xor_bytes_comm u (timesX p) ∙ e ∙ xor_bytes_comm (timesX p) v))
+        (xor_bytes_injective u v (times_x p) ((middle_block c laws key kb s mask a hm ha).long ∙ sym x) ((middle_block c laws key kb s mask b hm hb).long ∙ sym x)
+        (xor_bytes_comm u (times_x p) ∙ e ∙ xor_bytes_comm (times_x p) v))
 
     preauthenticators_differ : (k : ℕ) (xs ys : List (List ℕ)) (mask p : List ℕ) → AllBlocks xs → AllBlocks ys → Block mask → Block p → DifferOnlyAt k xs ys
         → ¬ ((pass c s key xs mask p).preauthenticator ≡ (pass c s key ys mask p).preauthenticator)
@@ -135,13 +135,13 @@ module _ (c : Cipher) (laws : Lawful c) (key : List ℕ) (kb : Key key) where
         let tails : xs ≡ ys = ext_get_or [] xs ys (suc_inj d.count) (λ i l. d.elsewhere (suc i) (λ z. omega arith)) in
         d.there
         (next_injective mask p x y hm hp hx.0 hy.0
-        (into_same xs (timesX mask) (next mask p x) (next mask p y) hx.1 (block-timesX mask hm.long) (next_block mask p x hm hp hx.0) (next_block mask p y hm hp hy.0)
-        (e ∙ ap (λ (bs : List (List ℕ)). (pass c s key bs (timesX mask) (next mask p y)).preauthenticator) (sym tails))))
+        (into_same xs (times_x mask) (next mask p x) (next mask p y) hx.1 (block-times_x mask hm.long) (next_block mask p x hm hp hx.0) (next_block mask p y hm hp hy.0)
+        (e ∙ ap (λ (bs : List (List ℕ)). (pass c s key bs (times_x mask) (next mask p y)).preauthenticator) (sym tails))))
     preauthenticators_differ (suc k) (x ∷ xs) (y ∷ ys) mask p hx hy hm hp d e =
         let same : x ≡ y = d.elsewhere 0 (λ z. omega arith) in
-        preauthenticators_differ k xs ys (timesX mask) (next mask p x) hx.1 hy.1 (block-timesX mask hm.long) (next_block mask p x hm hp hx.0)
+        preauthenticators_differ k xs ys (times_x mask) (next mask p x) hx.1 hy.1 (block-times_x mask hm.long) (next_block mask p x hm hp hx.0)
         (record { count = suc_inj d.count; there = d.there; elsewhere = λ i ne. d.elsewhere (suc i) (λ z. ne (suc_inj z)) })
-        (e ∙ ap (λ (b : List ℕ). (pass c s key ys (timesX mask) (next mask p b)).preauthenticator) (sym same))
+        (e ∙ ap (λ (b : List ℕ). (pass c s key ys (times_x mask) (next mask p b)).preauthenticator) (sym same))
 
     -- in the words of a run's record
     records-differ : (iv : List ℕ) (ib : Block iv) (first k : ℕ) (xs ys : List (List ℕ)) (r q : RunRecord) → AllBlocks xs → AllBlocks ys

@@ -12,8 +12,8 @@ use borrow.Author.Tests.{ltb-false, le-ltb}
 use Rattle.blocks.specs.Bytes.{xor_bytes, Bytes, Block, same, concat}
 use Rattle.blocks.proofs.Chunks.{bytes_take, bytes_drop}
 use Rattle.blocks.proofs.XorBytes.{block-xor, xor_bytes_cancel}
-use Rattle.gf128.specs.Gf128.{timesX, jump}
-use Rattle.gf128.proofs.TimesX.{block-timesX}
+use Rattle.gf128.specs.Gf128.{times_x, jump}
+use Rattle.gf128.proofs.TimesX.{block-times_x}
 use Rattle.fips197.specs.Aes.{KeyLength, Key}
 use Rattle.mode.specs.Mode.{Cipher, Lawful, Finish, LawfulFinish, overhead, plaintext, ciphertext, zero_block, start_mask, middletext, written, pass, unbroken, unbroken_tag, blocks_of, padded, iv_part, cipher_part, tag_part, sealed_record}
 use Rattle.mode.specs.Table.{given, decide, NoneHolds, too_long, too_long_within, not_sealed, zero_mask, longest_message, longest_sealed}
@@ -45,11 +45,11 @@ module _ (c : Cipher) (laws : Lawful c) (key : List ℕ) (kb : Key key) where
 
   unfoldable pub sealed_blocks : List (List ℕ) → List ℕ → List (List ℕ)
   sealed_blocks [] mask = []
-  sealed_blocks (b ∷ bs) mask = cipher_block mask b ∷ sealed_blocks bs (timesX mask)
+  sealed_blocks (b ∷ bs) mask = cipher_block mask b ∷ sealed_blocks bs (times_x mask)
 
   opened_blocks : List (List ℕ) → List ℕ → List (List ℕ)
   opened_blocks [] mask = []
-  opened_blocks (b ∷ bs) mask = plain_block mask b ∷ opened_blocks bs (timesX mask)
+  opened_blocks (b ∷ bs) mask = plain_block mask b ∷ opened_blocks bs (times_x mask)
 
   cancel : (a k : List ℕ) → Block a → Block k → xor_bytes (xor_bytes a k) k ≡ a
   cancel a k ha hk = xor_bytes_cancel a k (ha.long ∙ sym hk.long)
@@ -86,7 +86,7 @@ module _ (c : Cipher) (laws : Lawful c) (key : List ℕ) (kb : Key key) where
   sealed_good (b ∷ bs) mask h hm = (
     block-xor (c.second_half key (c.first_half key (xor_bytes b mask))) mask
         (second_block c laws key kb (c.first_half key (xor_bytes b mask)) (first_block c laws key kb (xor_bytes b mask) (block-xor b mask h.0 hm))) hm,
-    sealed_good bs (timesX mask) h.1 (block-timesX mask hm.long),
+    sealed_good bs (times_x mask) h.1 (block-times_x mask hm.long),
   )
 
   opened_good : (bs : List (List ℕ)) (mask : List ℕ) → AllBlocks bs → Block mask → AllBlocks (opened_blocks bs mask)
@@ -95,41 +95,41 @@ module _ (c : Cipher) (laws : Lawful c) (key : List ℕ) (kb : Key key) where
   opened_good (b ∷ bs) mask h hm = (
     block-xor (c.first_half_back key (c.second_half_back key (xor_bytes b mask))) mask
         (first_back c laws key kb (c.second_half_back key (xor_bytes b mask)) (second_back c laws key kb (xor_bytes b mask) (block-xor b mask h.0 hm))) hm,
-    opened_good bs (timesX mask) h.1 (block-timesX mask hm.long),
+    opened_good bs (times_x mask) h.1 (block-times_x mask hm.long),
   )
 
   opened_sealed : (bs : List (List ℕ)) (mask : List ℕ) → AllBlocks bs → Block mask → opened_blocks (sealed_blocks bs mask) mask ≡ bs
   unfolding sealed_blocks opened_blocks
   opened_sealed [] mask h hm = refl
   opened_sealed (b ∷ bs) mask h hm =
-      ap₂ (λ (x : List ℕ) (y : List (List ℕ)). x ∷ y) (plain-cipher mask b hm h.0) (opened_sealed bs (timesX mask) h.1 (block-timesX mask hm.long))
+      ap₂ (λ (x : List ℕ) (y : List (List ℕ)). x ∷ y) (plain-cipher mask b hm h.0) (opened_sealed bs (times_x mask) h.1 (block-times_x mask hm.long))
 
   sealed_opened : (bs : List (List ℕ)) (mask : List ℕ) → AllBlocks bs → Block mask → sealed_blocks (opened_blocks bs mask) mask ≡ bs
   unfolding sealed_blocks opened_blocks
   sealed_opened [] mask h hm = refl
   sealed_opened (b ∷ bs) mask h hm =
-      ap₂ (λ (x : List ℕ) (y : List (List ℕ)). x ∷ y) (cipher-plain mask b hm h.0) (sealed_opened bs (timesX mask) h.1 (block-timesX mask hm.long))
+      ap₂ (λ (x : List ℕ) (y : List (List ℕ)). x ∷ y) (cipher-plain mask b hm h.0) (sealed_opened bs (times_x mask) h.1 (block-times_x mask hm.long))
 
   pub length_sealed : (bs : List (List ℕ)) (mask : List ℕ) → length (sealed_blocks bs mask) ≡ length bs
   unfolding sealed_blocks
   length_sealed [] mask = refl
-  length_sealed (b ∷ bs) mask = ap suc (length_sealed bs (timesX mask))
+  length_sealed (b ∷ bs) mask = ap suc (length_sealed bs (times_x mask))
 
   length_opened : (bs : List (List ℕ)) (mask : List ℕ) → length (opened_blocks bs mask) ≡ length bs
   unfolding opened_blocks
   length_opened [] mask = refl
-  length_opened (b ∷ bs) mask = ap suc (length_opened bs (timesX mask))
+  length_opened (b ∷ bs) mask = ap suc (length_opened bs (times_x mask))
 
   pub output_is : (bs : List (List ℕ)) (mask p : List ℕ) → (pass c plaintext key bs mask p).output ≡ concat (sealed_blocks bs mask)
   unfolding pass written middletext sealed_blocks cipher_block concat
   output_is [] mask p = refl
   output_is (b ∷ bs) mask p =
-      ap (λ (r : List ℕ). cipher_block mask b ++ r) (output_is bs (timesX mask) (xor_bytes (timesX p) (c.first_half key (xor_bytes b mask))))
+      ap (λ (r : List ℕ). cipher_block mask b ++ r) (output_is bs (times_x mask) (xor_bytes (times_x p) (c.first_half key (xor_bytes b mask))))
 
   decrypted_is : (bs : List (List ℕ)) (mask : List ℕ) → decrypted c key bs mask ≡ concat (opened_blocks bs mask)
   unfolding decrypted middletext opened_blocks plain_block concat
   decrypted_is [] mask = refl
-  decrypted_is (b ∷ bs) mask = ap (λ (r : List ℕ). plain_block mask b ++ r) (decrypted_is bs (timesX mask))
+  decrypted_is (b ∷ bs) mask = ap (λ (r : List ℕ). plain_block mask b ++ r) (decrypted_is bs (times_x mask))
 
   -- checking gives the pre-authenticator that sealing gives
   pub same_preauthenticator : (bs : List (List ℕ)) (mask p : List ℕ) → AllBlocks bs → Block mask
@@ -137,8 +137,8 @@ module _ (c : Cipher) (laws : Lawful c) (key : List ℕ) (kb : Key key) where
   unfolding pass middletext sealed_blocks
   same_preauthenticator [] mask p h hm = refl
   same_preauthenticator (b ∷ bs) mask p h hm =
-      ap (λ (t : List ℕ). (pass c ciphertext key (sealed_blocks bs (timesX mask)) (timesX mask) (xor_bytes (timesX p) t)).preauthenticator) (middle_back mask b hm h.0)
-      ∙ same_preauthenticator bs (timesX mask) (xor_bytes (timesX p) (c.first_half key (xor_bytes b mask))) h.1 (block-timesX mask hm.long)
+      ap (λ (t : List ℕ). (pass c ciphertext key (sealed_blocks bs (times_x mask)) (times_x mask) (xor_bytes (times_x p) t)).preauthenticator) (middle_back mask b hm h.0)
+      ∙ same_preauthenticator bs (times_x mask) (xor_bytes (times_x p) (c.first_half key (xor_bytes b mask))) h.1 (block-times_x mask hm.long)
 
   module _ (iv : List ℕ) (ib : Block iv) where
     abbrev mask0 : List ℕ

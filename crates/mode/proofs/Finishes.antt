@@ -7,8 +7,8 @@ use lib.Seq.{take_at}
 use lib.Dec.{lit≤}
 use Rattle.blocks.specs.Bytes.{xor_bytes, zeros}
 use Rattle.fips197.specs.Aes.{KeyLength}
-use Rattle.sha1.specs.Sha1.{sha1}
-use Rattle.sha1.proofs.Digests.{length-sha1}
+use Rattle.fips180.specs.Sha1.{sha1}
+use Rattle.fips180.proofs.Digests.{length-sha1}
 use Rattle.mode.specs.declared.finish.Finish.{Finish as Named}
 use Rattle.mode.specs.declared.finish.Finish.TheVariants.{Cipher as NamedCipher, Sha1 as NamedSha1}
 use Rattle.mode.specs.Mode.{Cipher, Lawful, Finish, LawfulFinish, encrypt, encrypted_tag, hashed_tag, by_cipher, by_sha1, finish_named}

@@ -4,8 +4,8 @@ use mathlib.Core.Bool.{Bool, true, false, cond}
 use Prim.Native.Nat.{ℕ}
 use Rattle.blocks.specs.Bytes.{Block, xor_bytes, same}
 use Rattle.blocks.proofs.XorBytes.{block-xor}
-use Rattle.gf128.specs.Gf128.{timesX}
-use Rattle.gf128.proofs.TimesX.{block-timesX}
+use Rattle.gf128.specs.Gf128.{times_x}
+use Rattle.gf128.proofs.TimesX.{block-times_x}
 use Rattle.fips197.specs.Aes.{Key}
 use Rattle.mode.specs.Mode.{Cipher, Lawful, Source, plaintext, ciphertext, zero_block, key_block, encrypt, start_mask, middletext, pass}
 use Rattle.mode.proofs.Keys.{block-key_block}
@@ -44,5 +44,5 @@ module _ (c : Cipher) (laws : Lawful c) (key : List ℕ) (kb : Key key) where
   preauthenticator_block s [] mask p h hm hp = hp
   preauthenticator_block s (b ∷ bs) mask p h hm hp =
       let t = middletext c s key mask b in
-      preauthenticator_block s bs (timesX mask) (xor_bytes (timesX p) t) h.1 (block-timesX mask hm.long)
-      (block-xor (timesX p) t (block-timesX p hp.long) (middle_block s mask b hm h.0))
+      preauthenticator_block s bs (times_x mask) (xor_bytes (times_x p) t) h.1 (block-times_x mask hm.long)
+      (block-xor (times_x p) t (block-times_x p hp.long) (middle_block s mask b hm h.0))

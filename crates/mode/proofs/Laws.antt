@@ -8,8 +8,8 @@ use lib.ListN.{length, length-append}
 use Rattle.blocks.specs.Bytes.{xor_bytes}
 use Rattle.blocks.proofs.XorBytes.{xor_bytes-zeros, xor_bytes_comm, xor_bytes_assoc, length-xor}
 use Rattle.blocks.specs.Bytes.{same}
-use Rattle.gf128.specs.Gf128.{timesX, jump, carry, shift_left, reduction}
-use Rattle.gf128.proofs.TimesX.{length-timesX, length-jump, jump-xor, jump-add}
+use Rattle.gf128.specs.Gf128.{times_x, jump, carry, shift_left, reduction}
+use Rattle.gf128.proofs.TimesX.{length-times_x, length-jump, jump-xor, jump-add}
 use Rattle.fips197.specs.Aes.{KeyLength}
 use Rattle.mode.specs.Mode.{Cipher, Lawful, Source, plaintext, ciphertext, zero_block, key_block, encrypt, start_mask, middletext, written, pass, unbroken}
 use Rattle.mode.proofs.Keys.{key_block-long}
@@ -26,14 +26,14 @@ pub all_right : (x y : List (List ℕ)) → AllLong (x ++ y) → AllLong y
 all_right [] y h = h
 all_right (b ∷ x) y h = all_right x y h.1
 
-pub jump_next : (n : ℕ) (b : List ℕ) → jump n (timesX b) ≡ jump (suc n) b
+pub jump_next : (n : ℕ) (b : List ℕ) → jump n (times_x b) ≡ jump (suc n) b
 unfolding jump
 jump_next zero b = refl
-jump_next (suc n) b = ap timesX (jump_next n b)
+jump_next (suc n) b = ap times_x (jump_next n b)
 
-zero-timesX : timesX zero_block ≡ zero_block
-unfolding timesX carry shift_left reduction xor_bytes
-zero-timesX = refl
+zero-times_x : times_x zero_block ≡ zero_block
+unfolding times_x carry shift_left reduction xor_bytes
+zero-times_x = refl
 
 zero_xor : (t : List ℕ) → length t ≡ 16 → xor_bytes zero_block t ≡ t
 zero_xor t h = xor_bytes_comm zero_block t ∙ xor_bytes-zeros 16 t h
@@ -53,7 +53,7 @@ module _ (c : Cipher) (laws : Lawful c) (s : Source) (key : List ℕ) (key-size 
   pub pass_mask : (bs : List (List ℕ)) (mask pre : List ℕ) → (pass c s key bs mask pre).mask ≡ jump (length bs) mask
   unfolding pass jump
   pass_mask [] mask pre = refl
-  pass_mask (b ∷ bs) mask pre = pass_mask bs (timesX mask) (xor_bytes (timesX pre) (middletext c s key mask b)) ∙ jump_next (length bs) mask
+  pass_mask (b ∷ bs) mask pre = pass_mask bs (times_x mask) (xor_bytes (times_x pre) (middletext c s key mask b)) ∙ jump_next (length bs) mask
 
   -- what is written does not depend on the pre-authenticator
   pub output_free : (bs : List (List ℕ)) (mask p q : List ℕ) → (pass c s key bs mask p).output ≡ (pass c s key bs mask q).output
@@ -61,7 +61,7 @@ module _ (c : Cipher) (laws : Lawful c) (s : Source) (key : List ℕ) (key-size 
   output_free [] mask p q = refl
   output_free (b ∷ bs) mask p q =
       ap (λ (r : List ℕ). written c s key mask (middletext c s key mask b) ++ r)
-      (output_free bs (timesX mask) (xor_bytes (timesX p) (middletext c s key mask b)) (xor_bytes (timesX q) (middletext c s key mask b)))
+      (output_free bs (times_x mask) (xor_bytes (times_x p) (middletext c s key mask b)) (xor_bytes (times_x q) (middletext c s key mask b)))
 
   pub output-append : (x y : List (List ℕ)) (mask p q : List ℕ)
       → (pass c s key (x ++ y) mask p).output ≡ (pass c s key x mask p).output ++ (pass c s key y (jump (length x) mask) q).output
@@ -69,16 +69,16 @@ module _ (c : Cipher) (laws : Lawful c) (s : Source) (key : List ℕ) (key-size 
   output-append [] y mask p q = output_free y mask p q
   output-append (b ∷ x) y mask p q =
       ap (λ (r : List ℕ). written c s key mask (middletext c s key mask b) ++ r)
-      (output-append x y (timesX mask) (xor_bytes (timesX p) (middletext c s key mask b)) q
-      ∙ ap (λ (m : List ℕ). (pass c s key x (timesX mask) (xor_bytes (timesX p) (middletext c s key mask b))).output ++ (pass c s key y m q).output) (jump_next (length x) mask))
+      (output-append x y (times_x mask) (xor_bytes (times_x p) (middletext c s key mask b)) q
+      ∙ ap (λ (m : List ℕ). (pass c s key x (times_x mask) (xor_bytes (times_x p) (middletext c s key mask b))).output ++ (pass c s key y m q).output) (jump_next (length x) mask))
       ∙ sym (append_assoc (written c s key mask (middletext c s key mask b)) _ _)
 
   pub preauthenticator_long : (bs : List (List ℕ)) (mask p : List ℕ) → AllLong bs → length mask ≡ 16 → length p ≡ 16 → length (pass c s key bs mask p).preauthenticator ≡ 16
   unfolding pass
   preauthenticator_long [] mask p hs hm hp = hp
   preauthenticator_long (b ∷ bs) mask p hs hm hp =
-      preauthenticator_long bs (timesX mask) (xor_bytes (timesX p) (middletext c s key mask b)) hs.1 (length-timesX mask hm)
-      (xor-long (timesX p) (middletext c s key mask b) (length-timesX p hp) (middle_long mask b hm hs.0))
+      preauthenticator_long bs (times_x mask) (xor_bytes (times_x p) (middletext c s key mask b)) hs.1 (length-times_x mask hm)
+      (xor-long (times_x p) (middletext c s key mask b) (length-times_x p hp) (middle_long mask b hm hs.0))
 
   -- a pre-authenticator that went in comes out multiplied, and added
   pub preauthenticator_from : (bs : List (List ℕ)) (mask p : List ℕ) → AllLong bs → length mask ≡ 16 → length p ≡ 16
@@ -86,36 +86,36 @@ module _ (c : Cipher) (laws : Lawful c) (s : Source) (key : List ℕ) (key-size 
   unfolding pass jump
   preauthenticator_from [] mask p hs hm hp = sym (xor_bytes-zeros 16 p hp)
   preauthenticator_from (b ∷ bs) mask p hs hm hp =
-      preauthenticator_from bs (timesX mask) (xor_bytes (timesX p) t) hs.1 mask'_long (xor-long (timesX p) t p'_long t_long)
-      ∙ ap (λ (x : List ℕ). xor_bytes x rest) (jump-xor (length bs) (timesX p) t p'_long t_long)
-      ∙ xor_bytes_assoc (jump (length bs) (timesX p)) (jump (length bs) t) rest
+      preauthenticator_from bs (times_x mask) (xor_bytes (times_x p) t) hs.1 mask'_long (xor-long (times_x p) t p'_long t_long)
+      ∙ ap (λ (x : List ℕ). xor_bytes x rest) (jump-xor (length bs) (times_x p) t p'_long t_long)
+      ∙ xor_bytes_assoc (jump (length bs) (times_x p)) (jump (length bs) t) rest
       ∙ ap₂ xor_bytes (jump_next (length bs) p)
-      (sym (preauthenticator_from bs (timesX mask) t hs.1 mask'_long t_long)
-      ∙ ap (λ (x : List ℕ). (pass c s key bs (timesX mask) x).preauthenticator)
-      (sym (ap (λ (z : List ℕ). xor_bytes z t) zero-timesX ∙ zero_xor t t_long)))
+      (sym (preauthenticator_from bs (times_x mask) t hs.1 mask'_long t_long)
+      ∙ ap (λ (x : List ℕ). (pass c s key bs (times_x mask) x).preauthenticator)
+      (sym (ap (λ (z : List ℕ). xor_bytes z t) zero-times_x ∙ zero_xor t t_long)))
     where
       t : List ℕ
       t = middletext c s key mask b
 
       rest : List ℕ
-      rest = (pass c s key bs (timesX mask) zero_block).preauthenticator
+      rest = (pass c s key bs (times_x mask) zero_block).preauthenticator
 
       t_long : length (middletext c s key mask b) ≡ 16
       t_long = middle_long mask b hm hs.0
 
-      mask'_long : length (timesX mask) ≡ 16
-      mask'_long = length-timesX mask hm
+      mask'_long : length (times_x mask) ≡ 16
+      mask'_long = length-times_x mask hm
 
-      p'_long : length (timesX p) ≡ 16
-      p'_long = length-timesX p hp
+      p'_long : length (times_x p) ≡ 16
+      p'_long = length-times_x p hp
 
   pub preauthenticator_append : (x y : List (List ℕ)) (mask p : List ℕ)
       → (pass c s key (x ++ y) mask p).preauthenticator ≡ (pass c s key y (jump (length x) mask) (pass c s key x mask p).preauthenticator).preauthenticator
   unfolding pass jump
   preauthenticator_append [] y mask p = refl
   preauthenticator_append (b ∷ x) y mask p =
-      preauthenticator_append x y (timesX mask) (xor_bytes (timesX p) (middletext c s key mask b))
-      ∙ ap (λ (m : List ℕ). (pass c s key y m (pass c s key x (timesX mask) (xor_bytes (timesX p) (middletext c s key mask b))).preauthenticator).preauthenticator)
+      preauthenticator_append x y (times_x mask) (xor_bytes (times_x p) (middletext c s key mask b))
+      ∙ ap (λ (m : List ℕ). (pass c s key y m (pass c s key x (times_x mask) (xor_bytes (times_x p) (middletext c s key mask b))).preauthenticator).preauthenticator)
       (jump_next (length x) mask)
 
   module _ (iv : List ℕ) (iv-long : length iv ≡ 16) where

@@ -11,8 +11,8 @@ use lib.ListN.{length, length-append}
 use lib.Seq.{length-take-le}
 use borrow.Author.Tests.{ltb-true, ltb-false, le-ltb, lt-ltb, not-false}
 use Rattle.blocks.specs.Bytes.{xor_bytes, same}
-use Rattle.gf128.specs.Gf128.{timesX, jump}
-use Rattle.gf128.proofs.TimesX.{length-timesX}
+use Rattle.gf128.specs.Gf128.{times_x, jump}
+use Rattle.gf128.proofs.TimesX.{length-times_x}
 use Rattle.fips197.specs.Aes.{KeyLength}
 use Rattle.fips197.proofs.Keys.{is_key, has_key}
 use Rattle.mode.specs.Mode.{Cipher, Lawful, Finish, overhead, ciphertext, blocks_of, start_mask, middletext, unbroken_tag, iv_part, cipher_part, tag_part, UnbrokenCheck}
@@ -110,7 +110,7 @@ unfolding decrypted jump
 decrypted-append c key [] y mask = refl
 decrypted-append c key (b ∷ x) y mask =
     ap (λ (r : List ℕ). xor_bytes (c.first_half_back key (middletext c ciphertext key mask b)) mask ++ r)
-    (decrypted-append c key x y (timesX mask) ∙ ap (λ (m : List ℕ). decrypted c key x (timesX mask) ++ decrypted c key y m) (jump_next (length x) mask))
+    (decrypted-append c key x y (times_x mask) ∙ ap (λ (m : List ℕ). decrypted c key x (times_x mask) ++ decrypted c key y m) (jump_next (length x) mask))
     ∙ sym (append_assoc (xor_bytes (c.first_half_back key (middletext c ciphertext key mask b)) mask) _ _)
 
 -- it is as long as the ciphertext, and the message is no longer
@@ -122,8 +122,8 @@ module _ (c : Cipher) (laws : Lawful c) (key : List ℕ) (hk : KeyLength key) wh
   decrypted-long (b ∷ bs) mask hs hm =
       let middle = middletext c ciphertext key mask b in
       let first : length (xor_bytes (c.first_half_back key middle) mask) ≡ 16 = xor-long (c.first_half_back key middle) mask (laws.first_half_back_long key middle hk (middle_long c laws ciphertext key hk mask b hm hs.0)) hm in
-      length-append (xor_bytes (c.first_half_back key middle) mask) (decrypted c key bs (timesX mask))
-      ∙ ap₂ (λ (x y : ℕ). x + y) first (decrypted-long bs (timesX mask) hs.1 (length-timesX mask hm))
+      length-append (xor_bytes (c.first_half_back key middle) mask) (decrypted c key bs (times_x mask))
+      ∙ ap₂ (λ (x y : ℕ). x + y) first (decrypted-long bs (times_x mask) hs.1 (length-times_x mask hm))
       ∙ omega arith
 
   pub plaintext_long : (t : Finish) (sealed : List ℕ) → not_sealed t sealed ≡ false → length (plaintext_of t c key sealed) ≡ length (cipher_part t sealed)

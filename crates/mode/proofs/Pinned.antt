@@ -22,7 +22,7 @@ use Rattle.gf128.proofs.TimesX.{block-zero}
 use Rattle.fips197.specs.KeyExpansion.{round_keys}
 use Rattle.fips197.specs.Cipher.{cipher, inv_cipher, after_round}
 use Rattle.fips197.specs.Aes.{KeyLength, short, long, Key}
-use Rattle.sha1.specs.Sha1.{sha1, longest_text}
+use Rattle.fips180.specs.Sha1.{sha1, longest_text}
 use Rattle.mode.specs.Mode.{Cipher, Finish, overhead, by_cipher, by_sha1, plaintext, ciphertext, RunRecord, in_words, ByteRecord, in_bytes, zero_block, key_block, encrypt, start_mask, blocks_of, iv_part, cipher_part, tag_part, sealed_record, unbroken_tag, UnbrokenCheck}
 use Rattle.mode.specs.Table.{Answer, refused, given, decide, table_order, open_order, in_order, not_key, not16, unaligned, too_long, not_tag, not_sealed, not_sealed_within, beyond, too_far, too_far_within, apart, not_whole, zero_mask, too_short, limit, longest_message, longest_message_within, longest_sealed, longest_sealed_within, beyond_within, any_beyond_within}
 use Rattle.mode.specs.Calls.{Outcome, Kind, middle, last, outcome_by, blocks_of_run, unaligned_run, seal, seal_within, open_sealed, open_within, open_rows_within, unpadded, not_padded, or_empty, plaintext_of, pass_from, run_record, seal_run, seal_run_within, check_run, check_run_within, join_two, join_two_within, join_list, join_list_within, closing_tag, close, close_within, test, test_within, jump_mask, jump_mask_within, Calls, calls_of}

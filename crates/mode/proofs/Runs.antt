@@ -11,8 +11,8 @@ use lib.Dec.{leb, ltb}
 use borrow.Author.Tests.{eq-eqb, leb-true, leb-false, le-ltb, lt-ltb}
 use Rattle.blocks.specs.Bytes.{xor_bytes}
 use Rattle.blocks.specs.Words.{words_of}
-use Rattle.gf128.specs.Gf128.{timesX, jump}
-use Rattle.gf128.proofs.TimesX.{length-timesX, length-jump, jump-add}
+use Rattle.gf128.specs.Gf128.{times_x, jump}
+use Rattle.gf128.proofs.TimesX.{length-times_x, length-jump, jump-add}
 use Rattle.fips197.specs.Aes.{KeyLength}
 use Rattle.mode.specs.Mode.{Cipher, Lawful, Finish, Source, plaintext, ciphertext, RunRecord, in_words, zero_block, start_mask, middletext, written, pass, unbroken, record_of, blocks_of, iv_part}
 use Rattle.mode.specs.Table.{Answer, refused, given, decide, not16, beyond, beyond_within, zero_mask, limit}
@@ -74,17 +74,17 @@ module _ (c : Cipher) (key : List ℕ) (w : Work) where
 nothing_written : (c : Cipher) (key : List ℕ) (bs : List (List ℕ)) (mask p : List ℕ) → (pass c ciphertext key bs mask p).output ≡ []
 unfolding pass written
 nothing_written c key [] mask p = refl
-nothing_written c key (b ∷ bs) mask p = nothing_written c key bs (timesX mask) (xor_bytes (timesX p) (middletext c ciphertext key mask b))
+nothing_written c key (b ∷ bs) mask p = nothing_written c key bs (times_x mask) (xor_bytes (times_x p) (middletext c ciphertext key mask b))
 
 module _ (c : Cipher) (laws : Lawful c) (key : List ℕ) (key-size : KeyLength key) where
   pub output-long : (bs : List (List ℕ)) (mask p : List ℕ) → AllLong bs → length mask ≡ 16 → length (pass c plaintext key bs mask p).output ≡ 16 * length bs
   unfolding pass written
   output-long [] mask p hs hm = refl
   output-long (b ∷ bs) mask p hs hm =
-      length-append (xor_bytes (c.second_half key t) mask) (pass c plaintext key bs (timesX mask) (xor_bytes (timesX p) t)).output
+      length-append (xor_bytes (c.second_half key t) mask) (pass c plaintext key bs (times_x mask) (xor_bytes (times_x p) t)).output
       ∙ ap₂ (λ (x y : ℕ). x + y)
       (xor-long (c.second_half key t) mask (laws.second_half-long key t key-size (middle_long c laws plaintext key key-size mask b hm hs.0)) hm)
-      (output-long bs (timesX mask) (xor_bytes (timesX p) t) hs.1 (length-timesX mask hm))
+      (output-long bs (times_x mask) (xor_bytes (times_x p) t) hs.1 (length-times_x mask hm))
       ∙ omega arith
     where
       t : List ℕ

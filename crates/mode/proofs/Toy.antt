@@ -11,7 +11,7 @@ use Rattle.blocks.specs.Words.{bytes_of, words_of}
 use Rattle.blocks.proofs.Chunks.{bytes_drop}
 use Rattle.blocks.proofs.Test.{bytes_by}
 use Rattle.blocks.proofs.XorBytes.{xor_bytes_cancel, block-xor}
-use Rattle.gf128.specs.Gf128.{timesX, jump, carry, shift_left, reduction}
+use Rattle.gf128.specs.Gf128.{times_x, jump, carry, shift_left, reduction}
 use Rattle.fips197.specs.Aes.{KeyLength, short, long, Key}
 use Rattle.mode.specs.Mode.{Cipher, Lawful, zero_block, key_block, blocks_of, padded, encrypt, start_mask, middletext, written, pass, unbroken, record_of, iv_part, cipher_part, tag_part, encrypted_tag, hashed_tag, Finish, by_cipher, unbroken_tag, sealed_record}
 use Rattle.mode.specs.Table.{decide, not_key, not16, unaligned, beyond_within, any_beyond_within, apart, none, not_whole, not_tag, not_sealed_within, zero_mask}
@@ -61,7 +61,7 @@ toy_lawful =
 
 -- to unfold this is to unfold all that a small case computes by
 unfoldable pub computed : Unit {0}
-unfolding xor_bytes first_blocks same concat num low_bytes bytes_of words_of timesX jump carry shift_left reduction blocks_of padded key_block encrypt start_mask middletext written pass unbroken record_of iv_part cipher_part tag_part encrypted_tag hashed_tag unbroken_tag sealed_record decide not_key not16 unaligned beyond_within any_beyond_within apart none not_whole not_tag not_sealed_within zero_mask unaligned_run blocks_of_run outcome_by joined joined_onto joined_all join_two join_list pass_from run_record seal_run check_run closing_tag close test open_sealed open_rows_within not_padded or_empty unpadded unpad_from plaintext_of decrypted source_of finish_of iv_of text_of last_kind all_blocks Fits Cut runs_from blocks_of_runs runs_in record_in bytes_in is_recorded runs_of bytes_of_segments blocks_in consecutive AllRecorded Allowed merge_by record_by head_or first_run empties start room_of outcome_of_run run_outcome answer_of after after_all EachCall whole whole_tag record_of_segments ciphertext_of_segment Expected TestedAs
+unfolding xor_bytes first_blocks same concat num low_bytes bytes_of words_of times_x jump carry shift_left reduction blocks_of padded key_block encrypt start_mask middletext written pass unbroken record_of iv_part cipher_part tag_part encrypted_tag hashed_tag unbroken_tag sealed_record decide not_key not16 unaligned beyond_within any_beyond_within apart none not_whole not_tag not_sealed_within zero_mask unaligned_run blocks_of_run outcome_by joined joined_onto joined_all join_two join_list pass_from run_record seal_run check_run closing_tag close test open_sealed open_rows_within not_padded or_empty unpadded unpad_from plaintext_of decrypted source_of finish_of iv_of text_of last_kind all_blocks Fits Cut runs_from blocks_of_runs runs_in record_in bytes_in is_recorded runs_of bytes_of_segments blocks_in consecutive AllRecorded Allowed merge_by record_by head_or first_run empties start room_of outcome_of_run run_outcome answer_of after after_all EachCall whole whole_tag record_of_segments ciphertext_of_segment Expected TestedAs
 computed = tt
 
 abbrev pub a_key : List ℕ

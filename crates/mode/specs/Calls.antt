@@ -3,8 +3,8 @@
 use Rattle.std.proofs.Math.Option.{Option, some, none as no-message}
 use Rattle.std.specs.Prelude.{List, [], ◌∷◌, ◌++◌, Bool, true, false, cond, not, ℕ, zero, suc, ◌+◌, ◌*◌, ◌-◌, length, take, ℤ}
 use Rattle.blocks.specs.Bytes.{xor_bytes, same, zeros}
-use Rattle.gf128.specs.Gf128.{timesX, jump, jump_by}
-use Rattle.sha1.specs.Sha1.{sha1}
+use Rattle.gf128.specs.Gf128.{times_x, jump, jump_by}
+use Rattle.fips180.specs.Sha1.{sha1}
 use Rattle.mode.specs.Mode.{Cipher, Finish, Source, plaintext, ciphertext, Pass, Form, RunRecord, in_words, blocks_of, padded, zero_block, start_mask, middletext, pass, unbroken_tag, sealed_record, iv_part, cipher_part, tag_part}
 use Rattle.mode.specs.Table.{Answer, refused, given, decide, limit, not_key, not16, unaligned, too_long_within, not_tag, not_sealed_within, beyond_within, any_beyond_within, too_far_within, unhashable, apart, none, not_whole, zero_mask, too_short}
 -- the code's answers, as it declares them
@@ -234,7 +234,7 @@ module _ (c : Cipher) where
   unfoldable pub decrypted : List ℕ → List (List ℕ) → List ℕ → List ℕ
   decrypted key [] mask = []
   decrypted key (block ∷ blocks) mask =
-      xor_bytes (c.first_half_back key (middletext c ciphertext key mask block)) mask ++ decrypted key blocks (timesX mask)
+      xor_bytes (c.first_half_back key (middletext c ciphertext key mask block)) mask ++ decrypted key blocks (times_x mask)
 
 module _ (t : Finish) (c : Cipher) where
   unfoldable pub plaintext_of : List ℕ → List ℕ → List ℕ

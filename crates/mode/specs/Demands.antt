@@ -7,12 +7,12 @@ use Rattle.std.specs.Prelude.{◌≡◌, ◌⊎◌, ◌↔◌, List, [], ◌∷�
 use Rattle.blocks.specs.Bytes.{Bytes, Block, zeros, xor_bytes, same}
 use Rattle.blocks.specs.declared.words.Words.{Words}
 use Rattle.blocks.specs.Words.{Proper, bytes_of, words_of}
-use Rattle.gf128.specs.Gf128.{jump, overX, jump_by}
+use Rattle.gf128.specs.Gf128.{jump, over_x, jump_by}
 use Rattle.gf128.specs.Order.{Distinct}
 use Rattle.fips197.specs.KeyExpansion.{round_keys}
 use Rattle.fips197.specs.Aes.{KeyLength, Key}
 use Rattle.fips197.specs.Cipher.{cipher, inv_cipher, after_round}
-use Rattle.sha1.specs.Sha1.{sha1}
+use Rattle.fips180.specs.Sha1.{sha1}
 use Rattle.mode.specs.Mode.{Cipher, Source, plaintext, ciphertext, Pass, Form, RunRecord, in_words, ByteRecord, in_bytes, blocks_of, padded, zero_block, key_block, start_mask, encrypt, pass, Finish, overhead, LawfulFinish, by_cipher, by_sha1, unbroken, unbroken_tag, record_of, iv_part, cipher_part, tag_part, sealed_record, UnbrokenCheck}
 use Rattle.mode.specs.Table.{Answer, refused, given, decide, table_order, open_order, in_order, NoneHolds, Decides, apart, not_sealed, not_whole, zero_mask, limit, longest_message, longest_message_within, longest_sealed_within, any_beyond_within}
 use Rattle.mode.specs.Calls.{Outcome, answer_bytes, outcome_by, Kind, blocks_of_run, unaligned_run, seal, seal_within, seal_rows, open_sealed, open_within, open_rows, unpadded, or_empty, plaintext_of, pass_from, run_record, seal_run, seal_run_within, seal_run_rows, check_run, check_run_within, check_run_rows, join_two, join_two_within, join_two_rows, join_list, join_list_within, join_list_rows, joined_all, closing_tag, close, close_within, close_rows, test, test_within, test_rows, jump_mask, jump_mask_within, jump_rows, sha1_rows, sha1_text, Calls, calls_of}
@@ -430,7 +430,7 @@ JumpsTo mask distance m = (room : ℕ) → 16 ≤ room → Gives (jump_mask mask
 pub record SignedJump (c : Cipher) : Type 0 where
   -- by n blocks it is document 01's jump, n times the variable; by -1 it divides by the variable
   pub forward : (mask : List ℕ) (n : ℕ) → length mask ≡ 16 → n ≤ limit → JumpsTo mask (pos n) (jump n mask)
-  pub one_back : (mask : List ℕ) → length mask ≡ 16 → JumpsTo mask (negsuc 0) (overX mask)
+  pub one_back : (mask : List ℕ) → length mask ≡ 16 → JumpsTo mask (negsuc 0) (over_x mask)
   -- forward then back by the same amount, and back then forward, is the identity
   pub undone : (mask : List ℕ) (d : ℤ) → Block mask → InRange d → (m : List ℕ) × (JumpsTo mask d m × JumpsTo m (neg_ℤ d) mask)
   -- distances in range add where their sum is in range too

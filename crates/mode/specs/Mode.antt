@@ -2,9 +2,9 @@
 use Rattle.std.specs.Prelude.{◌≡◌, List, [], ◌∷◌, ◌++◌, cond, ℕ, ◌+◌, ◌-◌, ◌/◌, ◌%◌, length, take, drop}
 use Rattle.blocks.specs.Bytes.{Bytes, Block, xor_bytes, same, zeros, first_blocks}
 use Rattle.blocks.specs.Words.{bytes_of, words_of}
-use Rattle.gf128.specs.Gf128.{timesX}
+use Rattle.gf128.specs.Gf128.{times_x}
 use Rattle.fips197.specs.Aes.{KeyLength, Key}
-use Rattle.sha1.specs.Sha1.{sha1}
+use Rattle.fips180.specs.Sha1.{sha1}
 -- document 01's run record, as the code declares it: first, count, and the pre-authenticator in two words (ticket P12)
 pub use Rattle.mode.specs.declared.RunRecord.{RunRecord}
 use Rattle.mode.specs.declared.finish.Finish.{Finish as Named}
@@ -150,7 +150,7 @@ module _ (c : Cipher) where
   pass s key [] mask preauthenticator = record { output = []; preauthenticator = preauthenticator; mask = mask }
   pass s key (block ∷ blocks) mask preauthenticator =
       let middle = middletext s key mask block in
-      let rest = pass s key blocks (timesX mask) (xor_bytes (timesX preauthenticator) middle) in
+      let rest = pass s key blocks (times_x mask) (xor_bytes (times_x preauthenticator) middle) in
       record { output = written s key mask middle ++ rest.output; preauthenticator = rest.preauthenticator; mask = rest.mask }
 
   -- steps 1 and 2 over all blocks, nothing cut: the pre-authenticator is zero at first

@@ -2,7 +2,7 @@
 -- P7's limit. A row is a number and whether its condition holds; the first row that holds, in the table's order, is the answer.
 use Rattle.std.specs.Prelude.{◌≡◌, List, [], ◌∷◌, ◌++◌, Bool, true, false, cond, not, ◌||◌, ℕ, ◌+◌, ◌*◌, ◌-◌, ◌%◌, length, ℤ, nat_abs, eqb, ltb}
 use Rattle.blocks.specs.Bytes.{same}
-use Rattle.sha1.specs.Sha1.{longest_text}
+use Rattle.fips180.specs.Sha1.{longest_text}
 use Rattle.mode.specs.Mode.{Cipher, Finish, overhead, Form, zero_block, start_mask}
 -- 1 (ticket P8): a key that is neither 16 bytes nor 32
 unfoldable pub use Rattle.fips197.specs.Aes.{not_key}

@@ -1,9 +1,9 @@
 // The finish of a list: what makes its tag (ticket P4).
 ghost use Rattle.std.specs.Prelude.{◌≡◌};
-ghost use Rattle.mode.specs.Mode.{finish_named, overhead as overheadOf};
+ghost use Rattle.mode.specs.Mode.{finish_named, overhead as overhead_of};
 
 // By the cipher, as in document 01, or by SHA-1.
-#[derive(Drop)]
+#[derive(Clone, Copy)]
 pub enum Finish {
     Cipher,
     Sha1,
@@ -24,7 +24,7 @@ pub fn tag_length(finish: Finish) -> usize
 
 // The bytes that a sealed record has beside its ciphertext: IV and tag.
 pub fn overhead(finish: Finish) -> usize
-    ensures { result ≡ overheadOf (finish_named finish) }
+    ensures { result ≡ overhead_of (finish_named finish) }
 {
     16 + tag_length(finish)
 }

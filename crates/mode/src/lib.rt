@@ -1,3 +1,4 @@
+#![tactic(auto)]
 // Cipher-State mode as definitions (specs/), laws and the demands' theorems (proofs/), over any block cipher that is cut into two
 // halves. The calls stand above this crate. What they answer is declared here, so that the definitions speak of the very types; and
 // here is the join of two run records.
@@ -22,7 +23,7 @@ pub const LONGEST_CIPHERTEXT: usize = 16 * LIMIT as usize;
 pub const LONGEST_MESSAGE: usize = LONGEST_CIPHERTEXT - 1;
 
 // Document 01's run record: the number of the run's first block, its block count, and the pre-authenticator of the run alone, in two words.
-#[derive(Drop)]
+#[derive(Clone, Copy)]
 pub struct RunRecord {
     pub first: u32,
     pub count: u32,
@@ -30,14 +31,14 @@ pub struct RunRecord {
 }
 
 // An answer beside a lent output: document 01's number of the refusal, or 0, and the number of answer bytes.
-#[derive(Drop)]
+#[derive(Clone, Copy)]
 pub struct Written {
     pub refusal: u8,
     pub length: usize,
 }
 
 // A run's answer: the refusal or 0, the number of answer bytes, and the record.
-#[derive(Drop)]
+#[derive(Clone, Copy)]
 pub struct RunAnswer {
     pub refusal: u8,
     pub length: usize,
@@ -45,21 +46,21 @@ pub struct RunAnswer {
 }
 
 // The refusal or 0, and a record.
-#[derive(Drop)]
+#[derive(Clone, Copy)]
 pub struct RecordAnswer {
     pub refusal: u8,
     pub run: RunRecord,
 }
 
 // The refusal or 0, and a tag, with zeros behind it where it is shorter than the longest.
-#[derive(Drop)]
+#[derive(Clone, Copy)]
 pub struct TagAnswer {
     pub refusal: u8,
     pub tag: [u8; finish::LONGEST_TAG],
 }
 
 // The answer of a join, and the power of x that is kept for the next one.
-#[derive(Drop)]
+#[derive(Clone, Copy)]
 pub struct KeptAnswer {
     pub answer: RecordAnswer,
     pub last: LastPower,

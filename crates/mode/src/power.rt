@@ -5,7 +5,7 @@ ghost use Rattle.mode.specs.Powers.{no_power, Keeps, worked_out, power_for};
 use blocks::words::Words;
 
 // The last power of x that joining worked out: x^count, once `some` is set. `total` says how many were worked out.
-#[derive(Drop)]
+#[derive(Clone, Copy)]
 pub struct LastPower {
     pub some: bool,
     pub count: u32,

@@ -7,7 +7,7 @@ use lib.ListN.{length, take, drop, length-append, length-drop, take-append-drop}
 use lib.Seq.{drop-length, take_all, length-take-le}
 use Rattle.blocks.specs.Bytes.{xor_bytes, first_blocks}
 use Rattle.blocks.proofs.Chunks.{blocks-front}
-use Rattle.gf128.specs.Gf128.{timesX, jump}
+use Rattle.gf128.specs.Gf128.{times_x, jump}
 use Rattle.gf128.proofs.TimesX.{length-jump}
 use Rattle.fips197.specs.Aes.{KeyLength}
 use Rattle.mode.specs.Mode.{Pass, ciphertext, zero_block, padded, blocks_of, pass}
@@ -86,14 +86,14 @@ module _ (text : List ℕ) (h : Ciphertext text) where
     end_is = ap (λ (m : List ℕ). pass aes ciphertext key (last_block_lem ∷ []) m zero_block) (pass_mask aes aes_lawful ciphertext key hk front_blocks mask zero_block)
 
     -- the pre-authenticator is the join of both
-    pub preauthenticator_whole : whole.preauthenticator ≡ xor_bytes (timesX before.preauthenticator) end.preauthenticator
+    pub preauthenticator_whole : whole.preauthenticator ≡ xor_bytes (times_x before.preauthenticator) end.preauthenticator
     unfolding ran jump
     preauthenticator_whole =
         ap (λ (b : List (List ℕ)). (pass aes ciphertext key b mask zero_block).preauthenticator) blocks_are
         ∙ preauthenticator_append aes aes_lawful ciphertext key hk front_blocks (last_block_lem ∷ []) mask zero_block
         ∙ preauthenticator_from aes aes_lawful ciphertext key hk (last_block_lem ∷ []) (jump (length front_blocks) mask) before.preauthenticator (last_length, tt) (length-jump (length front_blocks) mask hm)
         (preauthenticator_long aes aes_lawful ciphertext key hk front_blocks mask zero_block (long-blocks (take front_length_lem text) front_aligned) hm refl)
-        ∙ ap (λ (p : Pass). xor_bytes (timesX before.preauthenticator) p.preauthenticator) (sym end_is)
+        ∙ ap (λ (p : Pass). xor_bytes (times_x before.preauthenticator) p.preauthenticator) (sym end_is)
 
     pub mask_whole : whole.mask ≡ end.mask
     unfolding ran jump

@@ -10,7 +10,7 @@ use mode::finish::Finish;
 use runs::run::Task;
 
 // The tag that a ciphertext gives, as it is held, and the plaintext of its last block.
-#[derive(Drop)]
+#[derive(Clone, Copy)]
 pub(crate) struct Checked {
     pub(crate) tag: [u8; mode::finish::LONGEST_TAG],
     pub(crate) last: [u8; 16],

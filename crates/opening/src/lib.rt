@@ -1,3 +1,4 @@
+#![tactic(auto)]
 // Open a sealed record. Any bytes and lengths may be handed in: the call gives the message or the number of the first row of the table that holds.
 // The ciphertext is gone over twice: once for the tag and the padding, and once to write. Plaintext is written only after both were found right,
 // so nothing has to be taken back: up to then, and after every refusal, the lent output is zero from end to end.

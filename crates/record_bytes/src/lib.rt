@@ -1,3 +1,4 @@
+#![tactic(auto)]
 // A run record as 24 bytes, as programs in C and Rust hold it.
 ghost use Rattle.std.specs.Prelude.{◌≡◌, ◌++◌, ◌≤◌, length, drop};
 ghost use Rattle.blocks.specs.Bytes.{zeros};

@@ -1,10 +1,11 @@
+#![tactic(auto)]
 // The join of a lent list of run records: one fold over the join of two, which keeps the last power of x and uses it again while the count
 // is the same.
 ghost use Rattle.std.specs.Prelude.{◌≡◌};
 ghost use Rattle.mode.specs.Mode.{in_words};
 ghost use Rattle.mode.specs.Calls.{join_list, record_answer_of};
 ghost use Rattle.mode.specs.Powers.{Keeps};
-ghost use Rattle.record_list.specs.Onto.{started, unless_beyond, unjoined as unjoinedOf, onto_of};
+ghost use Rattle.record_list.specs.Onto.{started, unless_beyond, unjoined as unjoined_of, onto_of};
 ghost use Rattle.record_list.specs.Counted.{Counted};
 
 use mode::power::LastPower;
@@ -24,7 +25,7 @@ fn unless_beyond(next: RunRecord, answer: RecordAnswer) -> RecordAnswer
 // One record more where there is none to join it to: after 9 it is the first, after 8 an earlier pair did not adjoin. Row 4 of this record
 // beats both. Any other refusal stands as it is.
 fn unjoined(refusal: u8, next: RunRecord) -> RecordAnswer
-    ensures { result ≡ unjoinedOf refusal next }
+    ensures { result ≡ unjoined_of refusal next }
 {
     if refusal == 8 {
         return unless_beyond(next, mode::refused(8));

@@ -6,7 +6,7 @@ use Prim.Native.Nat.{ℕ, zero, suc, ◌+◌, ◌*◌, ◌<◌}
 use native.Mathlib.Omega.{arith}
 use lib.ListN.{length, drop}
 use Rattle.blocks.specs.Bytes.{xor_bytes, first_blocks}
-use Rattle.gf128.specs.Gf128.{timesX, jump}
+use Rattle.gf128.specs.Gf128.{times_x, jump}
 use Rattle.gf128.proofs.TimesX.{jump-add}
 use Rattle.groups.specs.Group.{block_of, in_turn}
 use Rattle.groups.proofs.Front.{length-in_turn, turn_as, turn_first, block_behind}
@@ -25,7 +25,7 @@ use Rattle.runs.proofs.Taken.{taken_as, taken_first}
 unfoldable walk : (List ℕ → List ℕ) → (List ℕ → List ℕ) → List (List ℕ) → List ℕ → List ℕ → Pass
 walk f g [] mask p = record { output = []; preauthenticator = p; mask = mask }
 walk f g (b ∷ bs) mask p =
-    let rest = walk f g bs (timesX mask) (xor_bytes (timesX p) (f (xor_bytes b mask))) in
+    let rest = walk f g bs (times_x mask) (xor_bytes (times_x p) (f (xor_bytes b mask))) in
     record { output = xor_bytes (g (f (xor_bytes b mask))) mask ++ rest.output; preauthenticator = rest.preauthenticator; mask = rest.mask }
 
 -- ---- by the number of a block
@@ -38,25 +38,25 @@ module _ (f g : List ℕ → List ℕ) where
   output text mask i = xor_bytes (g (middle text mask i)) (jump i mask)
 
   -- the next block of a text is the first of what is behind it, under the next mask
-  next_mask : (mask : List ℕ) (i : ℕ) → jump i (timesX mask) ≡ jump (suc i) mask
+  next_mask : (mask : List ℕ) (i : ℕ) → jump i (times_x mask) ≡ jump (suc i) mask
   unfolding jump
   next_mask mask i = sym (jump-add i 1 mask) ∙ ap (λ (k : ℕ). jump k mask) (let e : i + 1 ≡ suc i = omega arith in e)
 
-  next_middle : (text mask : List ℕ) (i : ℕ) → middle (drop 16 text) (timesX mask) i ≡ middle text mask (suc i)
+  next_middle : (text mask : List ℕ) (i : ℕ) → middle (drop 16 text) (times_x mask) i ≡ middle text mask (suc i)
   next_middle text mask i =
       ap₂ (λ (b m : List ℕ). f (xor_bytes b m)) (block_behind 1 i text ∙ ap (block_of text) (let e : 1 + i ≡ suc i = omega arith in e)) (next_mask mask i)
 
   walk_mask : (n : ℕ) (text mask p : List ℕ) → (walk f g (first_blocks n text) mask p).mask ≡ jump n mask
   unfolding walk first_blocks jump
   walk_mask zero text mask p = refl
-  walk_mask (suc n) text mask p = walk_mask n (drop 16 text) (timesX mask) _ ∙ next_mask mask n
+  walk_mask (suc n) text mask p = walk_mask n (drop 16 text) (times_x mask) _ ∙ next_mask mask n
 
   walk_taken : (n : ℕ) (text mask p : List ℕ) → (walk f g (first_blocks n text) mask p).preauthenticator ≡ taken_up n (middle text mask) p
   unfolding walk first_blocks jump block_of taken_up
   walk_taken zero text mask p = refl
   walk_taken (suc n) text mask p =
-      walk_taken n (drop 16 text) (timesX mask) _
-      ∙ taken_as n (middle (drop 16 text) (timesX mask)) (λ i. middle text mask (suc i)) _ (λ i l. next_middle text mask i)
+      walk_taken n (drop 16 text) (times_x mask) _
+      ∙ taken_as n (middle (drop 16 text) (times_x mask)) (λ i. middle text mask (suc i)) _ (λ i l. next_middle text mask i)
       ∙ taken_first n (middle text mask) p
 
   walk_output : (n : ℕ) (text mask p : List ℕ) → (walk f g (first_blocks n text) mask p).output ≡ in_turn n (output text mask)
@@ -64,8 +64,8 @@ module _ (f g : List ℕ → List ℕ) where
   walk_output zero text mask p = refl
   walk_output (suc n) text mask p =
       ap (λ (x : List ℕ). output text mask 0 ++ x)
-      (walk_output n (drop 16 text) (timesX mask) _
-      ∙ turn_as n (output (drop 16 text) (timesX mask)) (λ i. output text mask (suc i)) (λ i l. ap₂ (λ (x m : List ℕ). xor_bytes (g x) m) (next_middle text mask i) (next_mask mask i)))
+      (walk_output n (drop 16 text) (times_x mask) _
+      ∙ turn_as n (output (drop 16 text) (times_x mask)) (λ i. output text mask (suc i)) (λ i l. ap₂ (λ (x m : List ℕ). xor_bytes (g x) m) (next_middle text mask i) (next_mask mask i)))
       ∙ turn_first n (output text mask)
 
 -- ---- sealing, opening and checking
@@ -79,31 +79,31 @@ module _ (key : List ℕ) where
         output = xor_bytes (second_half key (first_half key (xor_bytes b mask))) mask ++ q.output;
         preauthenticator = q.preauthenticator;
         mask = q.mask;
-      }) (seal_walk bs (timesX mask) (xor_bytes (timesX p) (first_half key (xor_bytes b mask))))
+      }) (seal_walk bs (times_x mask) (xor_bytes (times_x p) (first_half key (xor_bytes b mask))))
 
   open_output : (bs : List (List ℕ)) (mask p : List ℕ) → (walk (inv_second_half key) (inv_first_half key) bs mask p).output ≡ decrypted aes key bs mask
   unfolding walk decrypted middletext
   open_output [] mask p = refl
   open_output (b ∷ bs) mask p =
       ap (λ (r : List ℕ). xor_bytes (inv_first_half key (inv_second_half key (xor_bytes b mask))) mask ++ r)
-      (open_output bs (timesX mask) (xor_bytes (timesX p) (inv_second_half key (xor_bytes b mask))))
+      (open_output bs (times_x mask) (xor_bytes (times_x p) (inv_second_half key (xor_bytes b mask))))
 
   module _ (g : List ℕ → List ℕ) where
     check_mask : (bs : List (List ℕ)) (mask p : List ℕ) → (walk (inv_second_half key) g bs mask p).mask ≡ (pass aes ciphertext key bs mask p).mask
     unfolding walk pass middletext
     check_mask [] mask p = refl
-    check_mask (b ∷ bs) mask p = check_mask bs (timesX mask) (xor_bytes (timesX p) (inv_second_half key (xor_bytes b mask)))
+    check_mask (b ∷ bs) mask p = check_mask bs (times_x mask) (xor_bytes (times_x p) (inv_second_half key (xor_bytes b mask)))
 
     check_preauthenticator : (bs : List (List ℕ)) (mask p : List ℕ)
         → (walk (inv_second_half key) g bs mask p).preauthenticator ≡ (pass aes ciphertext key bs mask p).preauthenticator
     unfolding walk pass middletext
     check_preauthenticator [] mask p = refl
-    check_preauthenticator (b ∷ bs) mask p = check_preauthenticator bs (timesX mask) (xor_bytes (timesX p) (inv_second_half key (xor_bytes b mask)))
+    check_preauthenticator (b ∷ bs) mask p = check_preauthenticator bs (times_x mask) (xor_bytes (times_x p) (inv_second_half key (xor_bytes b mask)))
 
   check_output : (bs : List (List ℕ)) (mask p : List ℕ) → (pass aes ciphertext key bs mask p).output ≡ []
   unfolding pass written
   check_output [] mask p = refl
-  check_output (b ∷ bs) mask p = check_output bs (timesX mask) _
+  check_output (b ∷ bs) mask p = check_output bs (times_x mask) _
 
 -- ---- blocks done are a run over them
 

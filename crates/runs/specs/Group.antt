@@ -1,7 +1,7 @@
 -- A group of blocks on its way through a run.
 use Rattle.std.specs.Prelude.{◌≡◌, cond, List, ◌++◌, ℕ, zero, suc, ◌<◌, length, take, drop}
 use Rattle.blocks.specs.Bytes.{xor_bytes}
-use Rattle.gf128.specs.Gf128.{timesX, jump}
+use Rattle.gf128.specs.Gf128.{times_x, jump}
 use Rattle.groups.specs.Group.{block_at, Holds, in_front}
 use Rattle.runs.specs.Task.{to_middle, from_middle, writes, middle_at, output_at}
 use Rattle.runs.specs.declared.run.Task.{Task}
@@ -25,7 +25,7 @@ Stored task n group masks at old new =
 -- Step 2: the pre-authenticator is multiplied by the variable and the middletext added, n times
 unfoldable pub taken_up : ℕ → (ℕ → List ℕ) → List ℕ → List ℕ
 taken_up zero middle p = p
-taken_up (suc n) middle p = xor_bytes (timesX (taken_up n middle p)) (middle n)
+taken_up (suc n) middle p = xor_bytes (times_x (taken_up n middle p)) (middle n)
 
 -- n blocks of a text done, from a mask and a pre-authenticator: what they come to, and an output from the offset `at` on, which held `old`
 -- and now holds `new`

@@ -12,7 +12,7 @@ ghost use Rattle.runs.specs.Run.{ran, Ran, Room};
 use blocks::words::Words;
 
 // What is done with the blocks of a text: plaintext is sealed, ciphertext opened, or only checked.
-#[derive(Drop)]
+#[derive(Clone, Copy)]
 pub enum Task {
     Seal,
     Open,
@@ -20,7 +20,7 @@ pub enum Task {
 }
 
 // The mask after a run's last block, and the pre-authenticator.
-#[derive(Drop)]
+#[derive(Clone, Copy)]
 pub struct Chain {
     pub mask: Words,
     pub preauthenticator: Words,

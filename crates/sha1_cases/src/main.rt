@@ -1,3 +1,4 @@
+#![tactic(auto)]
 // Published examples of SHA-1 and digests of sha1sum's, run against the proved library. Each line says how many cases of a group agreed.
 use case_text::report;
 

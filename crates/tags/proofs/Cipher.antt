@@ -4,9 +4,9 @@ use mathlib.Core.List.{List}
 use Prim.Native.Nat.{ℕ}
 use Rattle.fips197.specs.Aes.{encrypt}
 use Rattle.fips197.proofs.Aes.{encrypt_halves}
-use Rattle.mode.specs.Mode.{encrypt as encryptOf}
+use Rattle.mode.specs.Mode.{encrypt as encrypt_of}
 use Rattle.mode.specs.Aes.{aes}
 
-pub by_halves : (key s : List ℕ) → encrypt key s ≡ encryptOf aes key s
-unfolding encryptOf
+pub by_halves : (key s : List ℕ) → encrypt key s ≡ encrypt_of aes key s
+unfolding encrypt_of
 by_halves key s = sym (encrypt_halves key s)

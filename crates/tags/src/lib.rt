@@ -1,3 +1,4 @@
+#![tactic(auto)]
 // Masks and tags: the start mask, the tag, and the calls that need no text. Any bytes, lengths and run records may be handed to a call; a
 // function that is no call states what it asks.
 pub mod mask; // mask.rt: step 1, the start mask, and step 3 by the cipher

@@ -8,7 +8,7 @@ ghost use Rattle.tags.specs.Work.{Prepares};
 
 use blocks::words::Words;
 
-#[derive(Drop)]
+#[derive(Clone, Copy)]
 pub struct Prepared {
     pub keys: [u8; cipher::KEYS],
     pub start: Words,

@@ -4,7 +4,7 @@ ghost use Rattle.fips197.specs.Aes.{KeyLength};
 ghost use Rattle.mode.specs.Mode.{in_words, finish_named};
 ghost use Rattle.mode.specs.Aes.{aes};
 ghost use Rattle.mode.specs.Table.{first_row};
-ghost use Rattle.mode.specs.Calls.{close_rows, closing_tag, held_tag, close as closeOf, test as test_of, tag_answer_of, number};
+ghost use Rattle.mode.specs.Calls.{close_rows, closing_tag, held_tag, close as close_of, test as test_of, tag_answer_of, number};
 ghost use Rattle.tags.specs.Work.{record_rows, test_first_rows};
 
 use mode::finish::Finish;
@@ -81,7 +81,7 @@ fn closing_tag(
 
 // CLOSE a record into its tag.
 pub fn close(finish: Finish, key: &[u8], iv: &[u8], run: RunRecord) -> TagAnswer
-    ensures { result ≡ tag_answer_of (closeOf in_words (finish_named finish) aes key.now iv.now run) }
+    ensures { result ≡ tag_answer_of (close_of in_words (finish_named finish) aes key.now iv.now run) }
 {
     let refusal = close_refusal(key, iv, run);
     if refusal != 0 {

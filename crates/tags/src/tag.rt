@@ -40,7 +40,7 @@ fn hashed_tag(key: &[u8], preauthenticator: Words, mask: Words) -> [u8; mode::fi
     let mut text = [0u8; 64];
     lay_out(key, preauthenticator, mask, &mut text);
     let size = key.len() + 32;
-    sha1::digest(&text[..size])
+    fips180::digest(&text[..size])
 }
 
 // Step 3. The schedule is the key's.

@@ -1,3 +1,4 @@
+#![tactic(auto)]
 // The vector program of document 01. It reads 48 bytes, a key, an IV and one block, and prints the start mask, the middletext, the
 // ciphertext block and the tag. For any other length of input, or where a call is refused, it prints nothing.
 use blocks::words::{Words, to_bytes};

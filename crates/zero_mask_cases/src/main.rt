@@ -1,3 +1,4 @@
+#![tactic(auto)]
 // A start mask that is still zero after its replacement (ticket P3), run against the proved library. Each line says how many cases of a
 // group agreed.
 use case_text::report;

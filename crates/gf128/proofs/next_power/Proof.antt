@@ -3,7 +3,7 @@ use borrow.Author.Rules.{rules}
 use mathlib.Core.Path.{◌≡◌, sym, ap, ◌∙◌}
 use native.Mathlib.Omega.{arith}
 use Rattle.blocks.specs.Words.{bytes_of}
-use Rattle.gf128.specs.Gf128.{timesX, overX, product}
+use Rattle.gf128.specs.Gf128.{times_x, over_x, product}
 use Rattle.gf128.proofs.JumpBy.{no_step, step_back, step_on}
 use Rattle.gf128.proofs.next_power.Statement.{statement}
 use Rattle.gf128.proofs.next_power.Tie as tie
@@ -29,7 +29,7 @@ returns-2 c =
     let a = s.before.args in
     let q = bytes_of a.q in
     let k : a.bit ≡ 1 = omega arith in
-    c.over-x.ensures ∙ ap overX s.square.ensures ∙ sym (step_back a.back a.bit (product q q) c.before.if2.true k)
+    c.over-x.ensures ∙ ap over_x s.square.ensures ∙ sym (step_back a.back a.bit (product q q) c.before.if2.true k)
 
 returns-3 : tie.Need-returns-3
 returns-3 c =
@@ -37,7 +37,7 @@ returns-3 c =
     let a = s.before.args in
     let q = bytes_of a.q in
     let k : a.bit ≡ 1 = omega arith in
-    c.times-x.ensures ∙ ap timesX s.square.ensures ∙ sym (step_on a.back a.bit (product q q) c.before.if2.false k)
+    c.times-x.ensures ∙ ap times_x s.square.ensures ∙ sym (step_on a.back a.bit (product q q) c.before.if2.false k)
 
 pub next-power-spec : {M : Type 1} → statement M
 next-power-spec =

@@ -8,7 +8,7 @@ use lib.ListN.{get_or}
 use Rattle.blocks.specs.Bytes.{Block}
 use Rattle.blocks.proofs.Array.{block-by}
 use Rattle.blocks.proofs.Tab.{filled, fill_none, fill_more, fill_all}
-use Rattle.fips197.specs.Sbox.{sbox as sboxOf}
+use Rattle.fips197.specs.Sbox.{sbox as sbox_of}
 use Rattle.fips197.specs.State.{sub_bytes, shift_rows}
 use Rattle.aes_tables.proofs.Lookup.{looked_up}
 use Rattle.aes_tables.proofs.state.sub_shift.Statement.{statement}
@@ -69,7 +69,7 @@ returns c =
     let s = c.before.before in
     let a = s.args in
     fill_all 16 (looked a.sbox.now a.t1) c.before.loop.i (search rules) (search rules) c.before.loop.invariant.1
-    ∙ looked_up a.sbox.now a.t1 sboxOf from s.requires (block s) (λ i h. omega arith)
+    ∙ looked_up a.sbox.now a.t1 sbox_of from s.requires (block s) (λ i h. omega arith)
 
 pub sub-shift-spec : {M : Type 1} → statement M
 sub-shift-spec =

@@ -12,8 +12,8 @@ use Rattle.mode.specs.Table.{first_row, unhashable}
 use Rattle.mode.specs.Calls.{sha1_rows, sha1_text}
 use Rattle.mode.proofs.Answers.{refuses, gives, refused_written, refused_output, given_written, given_output}
 use Rattle.mode.proofs.Passed.{head_passed, tail_passed}
-use Rattle.sha1.specs.Sha1.{sha1, longest_text}
-use Rattle.sha1.proofs.Digests.{length-sha1}
+use Rattle.fips180.specs.Sha1.{sha1, longest_text}
+use Rattle.fips180.proofs.Digests.{length-sha1}
 use Rattle.calls.proofs.hash.sha1.Statement.{statement}
 use Rattle.calls.proofs.hash.sha1.Tie as tie
 

@@ -4,7 +4,7 @@ use mathlib.Core.Path.{sym, ◌∙◌}
 use lib.ListN.{length}
 use Rattle.mode.specs.Table.{unhashable}
 use Rattle.mode.proofs.Rows.{row_holds, row_passes, no_row}
-use Rattle.sha1.specs.Sha1.{longest_text}
+use Rattle.fips180.specs.Sha1.{longest_text}
 use Rattle.calls.proofs.hash.sha1_refusal.Statement.{statement}
 use Rattle.calls.proofs.hash.sha1_refusal.Tie as tie
 

@@ -9,7 +9,7 @@ use Rattle.blocks.specs.Bytes.{zeros}
 use Rattle.mode.specs.Mode.{finish_named, sealed_record}
 use Rattle.mode.specs.Aes.{aes}
 use Rattle.mode.specs.Table.{first_row}
-use Rattle.mode.specs.Calls.{seal_rows, seal as sealOf}
+use Rattle.mode.specs.Calls.{seal_rows, seal as seal_of}
 use Rattle.mode.proofs.Aes.{aes_lawful}
 use Rattle.mode.proofs.Finishes.{both}
 use Rattle.mode.proofs.SealedLength.{sealed_length_lem}
@@ -37,7 +37,7 @@ same_length : tie.Need-same-length
 same_length c = search rules
 
 returns : tie.Need-returns
-unfolding sealOf
+unfolding seal_of
 returns c =
     let a = c.before.before.before.before.before.before.before.before.before.before.args in
     let room = length a.out.now in
@@ -57,7 +57,7 @@ same-length-2 : tie.Need-same-length-2
 same-length-2 c = search rules
 
 returns-2 : tie.Need-returns-2
-unfolding sealOf
+unfolding seal_of
 returns-2 c =
     let a = c.before.before.before.before.before.before.before.before.before.before.before.before.before.before.args in
     let q = c.before.before.before.before.before.before.before.before.clear in

@@ -9,7 +9,7 @@ use Rattle.blocks.specs.Bytes.{zeros, xor_bytes, first_blocks}
 use Rattle.blocks.specs.Words.{bytes_of}
 use Rattle.blocks.proofs.Bridge.{block-bytes_of}
 use Rattle.blocks.proofs.Parts.{back_is}
-use Rattle.gf128.specs.Gf128.{timesX}
+use Rattle.gf128.specs.Gf128.{times_x}
 use Rattle.fips197.specs.Aes.{KeyLength}
 use Rattle.cipher.specs.Keys.{key_of}
 use Rattle.mode.specs.Mode.{finish_named, Pass, ciphertext, zero_block, padded, blocks_of, pass}
@@ -84,7 +84,7 @@ returns c =
             c.tag.ensures
             ∙ ap₂ (λ (x u : List ℕ). held_tag (t.tag_from aes key x u))
             (c.before.xor.ensures
-            ∙ ap₂ xor_bytes (c.before.before.times-x.ensures ∙ ap timesX (front.ensures.authenticated ∙ ap (λ (z : Pass). z.preauthenticator) p)) (end.ensures.authenticated ∙ ap (λ (z : Pass). z.preauthenticator) q)
+            ∙ ap₂ xor_bytes (c.before.before.times-x.ensures ∙ ap times_x (front.ensures.authenticated ∙ ap (λ (z : Pass). z.preauthenticator) p)) (end.ensures.authenticated ∙ ap (λ (z : Pass). z.preauthenticator) q)
             ∙ sym (preauthenticator_whole text h key start hk hm))
             (end.ensures.masked ∙ ap (λ (z : Pass). z.mask) q ∙ sym (mask_whole text h key start hk hm));
         opened = ap (λ (x : List ℕ). front_of key start text ++ x) w ∙ plaintext_whole text h key start hk hm;

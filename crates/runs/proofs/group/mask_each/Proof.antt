@@ -6,7 +6,7 @@ use native.Mathlib.Omega.{arith}
 use native.Mathlib.Numerals.{add-one}
 use Rattle.blocks.specs.Bytes.{xor_bytes}
 use Rattle.blocks.specs.Words.{bytes_of}
-use Rattle.gf128.specs.Gf128.{timesX, jump}
+use Rattle.gf128.specs.Gf128.{times_x, jump}
 use Rattle.groups.specs.Group.{block_at}
 use Rattle.groups.proofs.Loop.{During, begins, turn, ends}
 use Rattle.runs.proofs.group.mask_each.Statement.{statement}
@@ -55,7 +55,7 @@ loop-again c =
       turn _ i _ l.loop.group c.before.before.before.put.new.0 _ l.loop.invariant.1 c.before.before.before.put.ensures
           (c.before.before.before.before.before.xor.ensures ∙ ap₂ xor_bytes (c.before.before.before.before.before.before.get.ensures ∙ l.loop.invariant.1.rest i (omega arith)) l.loop.invariant.3),
       turn _ i _ l.loop.masks c.before.put2.new.0 _ l.loop.invariant.2 c.before.put2.ensures l.loop.invariant.3,
-      c.times-x.ensures ∙ ap timesX l.loop.invariant.3 ∙ ap (λ (k : ℕ). jump k m) (sym (add-one i)),
+      c.times-x.ensures ∙ ap times_x l.loop.invariant.3 ∙ ap (λ (k : ℕ). jump k m) (sym (add-one i)),
     )
 
 returns : tie.Need-returns invariant-loop decreases-loop

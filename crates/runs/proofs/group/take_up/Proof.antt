@@ -6,7 +6,7 @@ use native.Mathlib.Omega.{arith}
 use native.Mathlib.Numerals.{add-one}
 use Rattle.blocks.specs.Bytes.{xor_bytes}
 use Rattle.blocks.specs.Words.{bytes_of}
-use Rattle.gf128.specs.Gf128.{timesX}
+use Rattle.gf128.specs.Gf128.{times_x}
 use Rattle.groups.specs.Group.{block_at}
 use Rattle.runs.specs.Group.{taken_up}
 use Rattle.runs.proofs.group.take_up.Statement.{statement}
@@ -45,7 +45,7 @@ loop-again c =
     let b = block_at l.before.args.middle.now in
     let p = bytes_of l.before.args.preauthenticator in (
       search rules,
-      c.xor.ensures ∙ ap₂ xor_bytes (c.before.before.times-x.ensures ∙ ap timesX l.loop.invariant.1) c.before.get.ensures ∙ ap (λ (k : ℕ). taken_up k b p) (sym (add-one i)),
+      c.xor.ensures ∙ ap₂ xor_bytes (c.before.before.times-x.ensures ∙ ap times_x l.loop.invariant.1) c.before.get.ensures ∙ ap (λ (k : ℕ). taken_up k b p) (sym (add-one i)),
     )
 
 returns : tie.Need-returns invariant-loop decreases-loop

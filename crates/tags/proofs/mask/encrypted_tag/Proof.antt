@@ -2,7 +2,7 @@
 use borrow.Author.Rules.{rules}
 use mathlib.Core.Path.{ap, ap₂, ◌∙◌}
 use Rattle.blocks.specs.Bytes.{xor_bytes}
-use Rattle.mode.specs.Mode.{encrypt as encryptOf, encrypted_tag}
+use Rattle.mode.specs.Mode.{encrypt as encrypt_of, encrypted_tag}
 use Rattle.mode.specs.Aes.{aes}
 use Rattle.cipher.specs.Keys.{key_of}
 use Rattle.tags.proofs.Cipher.{by_halves}
@@ -30,7 +30,7 @@ returns c =
     let a = c.before.before.before.before.before.args in
     c.xor2.ensures
     ∙ ap₂ xor_bytes
-    (c.before.before.encrypt-block.ensures ∙ by_halves (key_of a.keys.now) c.before.before.before.to-bytes.result ∙ ap (encryptOf aes (key_of a.keys.now)) (c.before.before.before.to-bytes.ensures ∙ c.before.before.before.before.xor.ensures))
+    (c.before.before.encrypt-block.ensures ∙ by_halves (key_of a.keys.now) c.before.before.before.to-bytes.result ∙ ap (encrypt_of aes (key_of a.keys.now)) (c.before.before.before.to-bytes.ensures ∙ c.before.before.before.before.xor.ensures))
     c.before.to-bytes2.ensures
 
 pub encrypted-tag-spec : {M : Type 1} → statement M

@@ -5,7 +5,7 @@ use mathlib.Core.List.{List}
 use Prim.Native.Nat.{ℕ}
 use Rattle.mode.specs.Mode.{in_words, finish_named}
 use Rattle.mode.specs.Aes.{aes}
-use Rattle.mode.specs.Calls.{close_rows, closing_tag, close as closeOf}
+use Rattle.mode.specs.Calls.{close_rows, closing_tag, close as close_of}
 use Rattle.mode.proofs.Answers.{refuses, gives, refused_tag, given_tag}
 use Rattle.mode.proofs.Passed.{key_passed, iv_16}
 use Rattle.tags.proofs.record.close.Statement.{statement}
@@ -15,7 +15,7 @@ close-refusal-requires : tie.Need-close-refusal-requires
 close-refusal-requires c κs = search rules
 
 returns : tie.Need-returns
-unfolding closeOf
+unfolding close_of
 returns c =
     let a = c.before.before.before.before.args in
     let x = c.before.close-refusal in
@@ -28,7 +28,7 @@ closing-tag-requires c κs =
     (key_passed a.key.now _ (sym x.ensures ∙ c.if1.false), iv_16 a.key.now a.iv.now _ (sym x.ensures ∙ c.if1.false))
 
 returns-2 : tie.Need-returns-2
-unfolding closeOf
+unfolding close_of
 returns-2 c =
     let a = c.before.before.before.before.before.args in
     let x = c.before.before.close-refusal in

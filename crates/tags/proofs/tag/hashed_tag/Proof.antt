@@ -9,7 +9,7 @@ use lib.Seq.{length-take-le}
 use Rattle.blocks.specs.Words.{bytes_of}
 use Rattle.blocks.proofs.Bridge.{block-bytes_of}
 use Rattle.fips197.proofs.Keys.{at_most_32}
-use Rattle.sha1.specs.Sha1.{sha1}
+use Rattle.fips180.specs.Sha1.{sha1}
 use Rattle.mode.specs.Mode.{hashed_tag}
 use Rattle.tags.proofs.Text.{read_again}
 use Rattle.tags.proofs.tag.hashed_tag.Statement.{statement}

@@ -7,7 +7,7 @@ use lib.ListN.{length}
 use Rattle.blocks.specs.Bytes.{zeros}
 use Rattle.blocks.specs.Words.{bytes_of}
 use Rattle.fips197.specs.Aes.{KeyLength}
-use Rattle.sha1.proofs.Digests.{length-sha1}
+use Rattle.fips180.proofs.Digests.{length-sha1}
 use Rattle.mode.specs.declared.finish.Finish.{Finish as Named}
 use Rattle.mode.specs.Mode.{encrypted_tag, hashed_tag, finish_named}
 use Rattle.mode.specs.Aes.{aes}

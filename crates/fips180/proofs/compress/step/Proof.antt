@@ -1,0 +1,31 @@
+-- The sums, one after another.
+use Rattle.std.proofs.Common.{rules}
+use Rattle.fips180.specs.Sha1.{rotl}
+use Rattle.fips180.proofs.compress.step.Statement.{statement}
+use Rattle.fips180.proofs.compress.step.Tie as tie
+
+add-requires : tie.Need-add-requires
+add-requires c κs = search rules
+
+add-requires-2 : tie.Need-add-requires-2
+add-requires-2 c κs = search rules
+
+add-requires-3 : tie.Need-add-requires-3
+add-requires-3 c κs = search rules
+
+add-requires-4 : tie.Need-add-requires-4
+add-requires-4 c κs = search rules
+
+returns : tie.Need-returns
+unfolding rotl
+returns c = cc
+
+pub step_spec : {M : Type 1} → statement M
+step_spec =
+    tie.close
+    (tie.spec
+    add-requires
+    add-requires-2
+    add-requires-3
+    add-requires-4
+    returns)

@@ -1,0 +1,32 @@
+-- A number by its bytes.
+use Rattle.std.proofs.Common.{arith, rules}
+use Rattle.blocks.specs.Num.{num}
+use Rattle.fips180.proofs.compress.word.Statement.{statement}
+use Rattle.fips180.proofs.compress.word.Tie as tie
+
+mul-result : tie.Need-overflow-mul-result
+mul-result c = search rules
+
+add-result : tie.Need-overflow-add-result
+add-result c = search rules
+
+mul-result-2 : tie.Need-overflow-mul-result-2
+mul-result-2 c = search rules
+
+add-result-2 : tie.Need-overflow-add-result-2
+add-result-2 c = search rules
+
+mul-result-3 : tie.Need-overflow-mul-result-3
+mul-result-3 c = search rules
+
+add-result-3 : tie.Need-overflow-add-result-3
+add-result-3 c = search rules
+
+returns : tie.Need-returns
+unfolding num
+returns c = omega arith
+
+pub word-spec : {M : Type 1} → statement M
+word-spec =
+    tie.close
+    (tie.spec mul-result add-result mul-result-2 add-result-2 mul-result-3 add-result-3 returns)
