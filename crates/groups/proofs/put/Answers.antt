@@ -1,0 +1,6 @@
+-- Two stores.
+use Rattle.groups.proofs.Loop.{put_words}
+use Rattle.groups.proofs.put.Goals as goal
+
+pub returns : goal.returns
+returns c = put_words c.args.group.now c.args.i c.args.w c.requires.group_len c.requires.i_bound
