@@ -2,11 +2,9 @@
 -- and the second after the first is FIPS 197's cipher. The number of rounds is left open: it is whatever the key's words give.
 use mathlib.Core.Path.{◌≡◌, sym, ap, ◌∙◌}
 use mathlib.Core.List.{List}
-use Prim.Native.Nat.{ℕ, ◌+◌, ◌/◌, ◌<◌}
+use Prim.Native.Nat.{ℕ, ◌/◌}
 use native.Mathlib.Omega.{arith}
-use lib.ListN.{length}
 use Rattle.blocks.specs.Bytes.{Block, Blocks}
-use Rattle.fips197.specs.KeyExpansion.{round_keys}
 use Rattle.fips197.specs.Cipher as C
 use Rattle.fips197.specs.Aes.{Key, nk_of, nr_of, keys, first_half, second_half, inv_first_half, inv_second_half, encrypt, decrypt}
 use Rattle.fips197.proofs.Rounds as R
