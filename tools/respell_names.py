@@ -23,6 +23,7 @@ GHOST = re.compile(r"(?:ghost use[^;]*;|(?:requires|ensures)\*?(?:\s+\w+)?\s*\{|
 FORMER = {"getD": "get_or", "bitXor": "bit_xor"}
 # names that the library's own lemmas join by a dash, and the crates do not import
 JOINED = {"le", "lt", "eq", "zero", "suc", "append", "nil", "cons", "add", "mul", "sub", "xor", "mod", "div", "length", "take", "drop", "concat"}
+KEPT = {"in-words", "in-bytes"}
 
 
 def texts(*ends):
@@ -99,10 +100,14 @@ def respelled(specs, lemmas, fields, words):
         while joined(new, names) != new:
             new = joined(new, names)
         table[name] = new
+    # a field that would hide a definition that its record cites, and what the library has by this name
+    for name in KEPT | words:
+        table.pop(name, None)
     # names that fall together: what specs/ define keeps the plain one
+    turned = {table[name] for name in specs if table.get(name, name) != name}
     taken = {table.get(name, name) for name in specs | words}
-    for name in sorted(lemmas - fields, key=lambda n: (table[n] != n, "-" in n, n)):
-        if table[name] != name and table[name] in taken:
+    for name in sorted(lemmas - fields - words, key=lambda n: (table[n] != n, "-" in n, n)):
+        if table[name] in (taken if table[name] != name else turned):
             table[name] += "_lem"
         taken.add(table[name])
     return {name: new for name, new in table.items() if name != new}

@@ -215,7 +215,7 @@ pub words_as_bytes : (c : Cipher) → Lawful c → WordsAsBytes c
 words_as_bytes c laws =
     record {
       one_form = record { of_bytes = λ b h. (proper_words_of b h, bytes_words b h); of_words = λ w h. (block-bytes_of w, words_bytes w h) };
-      in_words = same_in in_bytes in_words reads_bytes reads_words c laws;
+      in-words = same_in in_bytes in_words reads_bytes reads_words c laws;
       in_bytes = same_in in_words in_bytes reads_words reads_bytes c laws;
       words_formed = λ r h.
           record {

@@ -14,8 +14,8 @@ use Rattle.mode.specs.Mode.{Cipher, Finish, overhead, RunRecord, in_words, block
 use Rattle.mode.specs.Table.{Answer, refused, decide, NoneHolds, limit, not_key, not16, unaligned, not_tag, longest_message_within, longest_sealed_within, too_long_within, not_sealed, not_sealed_within, beyond_within, any_beyond, any_beyond_within, too_far_within}
 use Rattle.mode.specs.Calls.{outcome_by, blocks_of_run, unaligned_run, seal, open_sealed, open_rows_within, seal_run, check_run, join_two, join_list, close, test, jump_mask}
 use Rattle.mode.specs.Demands.{SameOr, SameOrInto, LowerLimit, LowerLimits}
-use Rattle.mode.proofs.Rows.{or_true, too_long, sealed_long}
-use Rattle.mode.proofs.Passed.{or_false_lem}
+use Rattle.mode.proofs.Rows.{or_true, too_long_lem, sealed_long}
+use Rattle.mode.proofs.Passed.{or-false}
 use Rattle.mode.proofs.Runs.{is16}
 use Rattle.mode.proofs.Decisions.{refuses, outcome_refuses}
 
@@ -79,7 +79,7 @@ module _ (n : ℕ) (h : n ≤ limit) where
   unfolding any_beyond_within beyond_within
   none_far [] e = refl
   none_far (r ∷ rs) e =
-      let u = or_false_lem (ltb n (r.first + r.count)) (any_beyond_within n in_words rs) e in
+      let u = or-false (ltb n (r.first + r.count)) (any_beyond_within n in_words rs) e in
       let l : r.first + r.count ≤ limit = let k = ltb-false n (r.first + r.count) u.0 in omega (arith, k, h) in
       rw (le-ltb limit (r.first + r.count) l) (none_far rs u.1)
 
@@ -115,7 +115,7 @@ lower_limit c n h =
       longer_record = λ t key sealed room hk l.
           outcome_refuses _ _ room 3 (refused_row ((1, not_key key) ∷ []) _ 3 _ _ (is_key key hk, tt) (sealed_long t n sealed l));
       longer_message = λ t key iv message room hk hi l.
-          outcome_refuses _ _ room 3 (refused_row ((1, not_key key) ∷ (2, not16 iv) ∷ []) _ 3 _ _ (is_key key hk, (is16 iv hi, tt)) (too_long n message l));
+          outcome_refuses _ _ room 3 (refused_row ((1, not_key key) ∷ (2, not16 iv) ∷ []) _ 3 _ _ (is_key key hk, (is16 iv hi, tt)) (too_long_lem n message l));
     }
 
 pub lower_limits : (c : Cipher) → LowerLimits c

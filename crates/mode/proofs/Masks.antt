@@ -74,8 +74,8 @@ module _ (c : Cipher) (laws : Lawful c) (s : Source) (key iv : List ℕ) (blocks
       (distinct_less zero_block (length blocks) reach (λ i. jump i (start_mask c key iv)) (le_trans fits (lit≤ tt))
       (distinct_jumps (start_mask c key iv) (start-block c laws key kb iv ib) start_nonzero))
 
-  in_words : Distinct zero_words (length blocks) (λ i. words_of (mask_at c s key iv blocks i))
-  in_words =
+  in-words : Distinct zero_words (length blocks) (λ i. words_of (mask_at c s key iv blocks i))
+  in-words =
       distinct_words (length blocks) (mask_at c s key iv blocks)
       (λ i l. subst Block (sym (mask_is c laws s key kb.size iv ib.long blocks i l)) (block-jump i (start_mask c key iv) (start-block c laws key kb iv ib))) in_bytes
 
@@ -83,7 +83,7 @@ pub distinct_masks : (c : Cipher) → Lawful c → DistinctMasks c
 distinct_masks c laws =
     record {
       in_bytes = in_bytes c laws;
-      in_words = in_words c laws;
+      in-words = in-words c laws;
       of_run = λ s key iv before these i size long. of_run c laws s key size iv long before these i;
       of_closing = λ s key iv blocks r size long e.
           ap (λ (n : ℕ). jump n (start_mask c key iv)) e ∙ sym (mask_is c laws s key size iv long blocks (length blocks) (omega arith));

@@ -57,9 +57,9 @@ run_within key iv b first count rows e =
     (tail_passed 2 b ((4, beyond first count) ∷ rows)
     (tail_passed 1 (not16 iv) ((3, b) ∷ (4, beyond first count) ∷ rows) (tail_passed 0 (not_key key) ((2, not16 iv) ∷ (3, b) ∷ (4, beyond first count) ∷ rows) e)))
 
-pub or_false_lem : (p q : Bool) → (p || q) ≡ false → (p ≡ false) × (q ≡ false)
-or_false_lem true q e = absurd (let z : ◌≡◌ {A = ℕ} 0 1 = cc in omega arith)
-or_false_lem false q e = (refl, e)
+pub or-false : (p q : Bool) → (p || q) ≡ false → (p ≡ false) × (q ≡ false)
+or-false true q e = absurd (let z : ◌≡◌ {A = ℕ} 0 1 = cc in omega arith)
+or-false false q e = (refl, e)
 
 -- 3 of a sealed record does not hold
 pub sealed_lengths : (t : Finish) (sealed : List ℕ) → not_sealed t sealed ≡ false → Fits (checking t sealed)
@@ -67,8 +67,8 @@ unfolding not_sealed_within Fits
 sealed_lengths t sealed e =
     let size = length sealed in
     let rest = not (eqb ((size - overhead t) % 16) 0) in
-    let a = or_false_lem (ltb size (16 + overhead t)) (ltb (longest_sealed t) size || rest) e in
-    let b = or_false_lem (ltb (longest_sealed t) size) rest a.1 in
+    let a = or-false (ltb size (16 + overhead t)) (ltb (longest_sealed t) size || rest) e in
+    let b = or-false (ltb (longest_sealed t) size) rest a.1 in
     (ltb-false size (16 + overhead t) a.0, ltb-false (longest_sealed t) size b.0, eqb-true ((size - overhead t) % 16) 0 (not-false (eqb ((size - overhead t) % 16) 0) b.1))
 
 -- and where its length is right, it does not

@@ -561,7 +561,7 @@ module _ (c : Cipher) (w : WordsAsBytes c) where
       let q = seal_run in_bytes c key iv first kind bytes room in
       (o.answer ≡ map_answer (in_form in_bytes in_words) q.answer) × (o.reported ≡ q.reported) × (o.output ≡ q.output)
   sealed_as_in_bytes key iv first kind bytes room hk hv hb =
-      let e = w.in_words.of_seal_run key iv first kind bytes room hk hv hb in
+      let e = w.in-words.of_seal_run key iv first kind bytes room hk hv hb in
       (ap (λ (o : Outcome RunRecord). o.answer) e, ap (λ (o : Outcome RunRecord). o.reported) e, ap (λ (o : Outcome RunRecord). o.output) e)
 
   -- any two records in words are joined as their bytes are, and any one is closed as its bytes are
@@ -574,10 +574,10 @@ module _ (c : Cipher) (w : WordsAsBytes c) where
   pub joined_as_in_bytes : (l r : RunRecord) → Proper l.preauthenticator → Proper r.preauthenticator
       → join_two in_words l r ≡ map_answer (in_form in_bytes in_words) (join_two in_bytes (in_form in_words in_bytes l) (in_form in_words in_bytes r))
   joined_as_in_bytes l r hl hr =
-      sym (ap₂ (join_two in_words) (made l hl) (made r hr)) ∙ w.in_words.of_join (in_form in_words in_bytes l) (in_form in_words in_bytes r) (held l hl) (held r hr)
+      sym (ap₂ (join_two in_words) (made l hl) (made r hr)) ∙ w.in-words.of_join (in_form in_words in_bytes l) (in_form in_words in_bytes r) (held l hl) (held r hr)
 
   pub closed_as_in_bytes : (t : Finish) (key iv : List ℕ) (r : RunRecord) → Proper r.preauthenticator → close in_words t c key iv r ≡ close in_bytes t c key iv (in_form in_words in_bytes r)
-  closed_as_in_bytes t key iv r h = sym (ap (close in_words t c key iv) (made r h)) ∙ w.in_words.of_close t key iv (in_form in_words in_bytes r) (held r h)
+  closed_as_in_bytes t key iv r h = sym (ap (close in_words t c key iv) (made r h)) ∙ w.in-words.of_close t key iv (in_form in_words in_bytes r) (held r h)
 
   -- two different pairs of words have different bytes, and two different blocks different words
   pub words-apart : (v x : Words) → Proper v → Proper x → bytes_of v ≡ bytes_of x → v ≡ x

@@ -37,7 +37,7 @@ module _ (c : Cipher) (d : DistinctMasks c) (key iv : List ℕ) (nz : NonzeroMas
 
   pub words_at_the_limit : (s : Source) (blocks : List (List ℕ)) → length blocks ≡ limit → Distinct (record { high = 0; low = 0 }) limit (λ i. words_of (mask_at c s key iv blocks i))
   words_at_the_limit s blocks e =
-      subst (λ (n : ℕ). Distinct (record { high = 0; low = 0 }) n (λ i. words_of (mask_at c s key iv blocks i))) e (d.in_words s key iv blocks nz kb ib (le_of_eq e))
+      subst (λ (n : ℕ). Distinct (record { high = 0; low = 0 }) n (λ i. words_of (mask_at c s key iv blocks i))) e (d.in-words s key iv blocks nz kb ib (le_of_eq e))
 
   -- the mask that closing adds is none of the blocks'
   pub closing_differs : (s : Source) (blocks : List (List ℕ)) (r : RunRecord) (i : ℕ) → length blocks ≤ limit → r.count ≡ length blocks → i < length blocks

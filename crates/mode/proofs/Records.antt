@@ -28,7 +28,7 @@ use Rattle.mode.proofs.Bytes.{AllBlocks, run_blocks, blocks-concat, length-conca
 use Rattle.mode.specs.Demands.{CheckedAsSealed, ListWithin}
 use Rattle.mode.proofs.Decisions.{given_rows, passed_rows}
 use Rattle.mode.proofs.Demand2.{sealed_blocks, same_preauthenticator, sealed_good, output_is, length_sealed}
-use Rattle.mode.proofs.Passed.{or_false_lem}
+use Rattle.mode.proofs.Passed.{or-false}
 use Rattle.mode.proofs.Halves.{start-block}
 
 -- joining is independent of grouping
@@ -76,8 +76,8 @@ onto_within : (l : RunRecord) (rs : List RunRecord) → l.first + l.count ≤ li
 unfolding joined_onto any_beyond_within apart beyond_within joined
 onto_within l [] h b a = h
 onto_within l (r ∷ rs) h b a =
-    let u = or_false_lem (ltb limit (r.first + r.count)) (any_beyond in_words rs) b in
-    let v = or_false_lem (not (eqb (l.first + l.count) r.first)) (apart in_words (r ∷ rs)) a in
+    let u = or-false (ltb limit (r.first + r.count)) (any_beyond in_words rs) b in
+    let v = or-false (not (eqb (l.first + l.count) r.first)) (apart in_words (r ∷ rs)) a in
     let e : l.first + l.count ≡ r.first = eqb-true (l.first + l.count) r.first (not-false (eqb (l.first + l.count) r.first) v.0) in
     let k : r.first + r.count ≤ limit = ltb-false limit (r.first + r.count) u.0 in
     onto_within (joined in_words l r) rs (omega arith) u.1 (next rs e v.1)
@@ -96,7 +96,7 @@ list_within [] r e = absurd (let z = (given_rows ((4, any_beyond in_words []) �
     bad e = let z : ◌≡◌ {A = ℕ} 0 1 = cc in omega arith
 list_within (l ∷ rs) r e =
     let g = given_rows ((4, any_beyond in_words (l ∷ rs)) ∷ (8, apart in_words (l ∷ rs)) ∷ (9, none (l ∷ rs)) ∷ []) (joined_all in_words (l ∷ rs)) r e in
-    let u = or_false_lem (beyond l.first l.count) (any_beyond in_words rs) (unfold any_beyond_within in g.0.0) in
+    let u = or-false (beyond l.first l.count) (any_beyond in_words rs) (unfold any_beyond_within in g.0.0) in
     let k : l.first + l.count ≤ limit = ltb-false limit (l.first + l.count) (unfold beyond_within in u.0) in
     subst (λ (r : RunRecord). r.first + r.count ≤ limit) g.1 (unfold joined_all in (onto_within l rs k u.1 g.0.1.0))
 

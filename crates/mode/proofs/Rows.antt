@@ -1,6 +1,6 @@
 -- Rows of the table, one after another: how a call comes to its refusal or to its answer.
 use mathlib.Core.Path.{◌≡◌, refl, sym, ap, ◌∙◌}
-use mathlib.Core.Bool.{Bool, true, false, cond, not, ◌&&◌, ◌||◌, or_false_lem}
+use mathlib.Core.Bool.{Bool, true, false, cond, not, ◌&&◌, ◌||◌, or-false}
 use mathlib.Core.List.{List, [], ◌∷◌, ◌++◌}
 use Prim.Native.Nat.{ℕ, zero, suc, ◌+◌, ◌-◌, ◌%◌, ◌≤◌, ◌<◌}
 use native.Mathlib.Omega.{arith}
@@ -121,12 +121,12 @@ outside d = lt_z d (neg_ℤ (pos limit)) || lt_z (pos limit) d
 pub is_outside : (d : ℤ) → outside d ≡ too_far d
 unfolding too_far_within
 is_outside (pos n) = refl
-is_outside (negsuc n) = or_false_lem (ltb (limit - 1) n) ∙ sym (leb-suc-suc limit n)
+is_outside (negsuc n) = or-false (ltb (limit - 1) n) ∙ sym (leb-suc-suc limit n)
 
 -- with any limit
-pub too_long : (n : ℕ) (m : List ℕ) → longest_message_within n < length m → too_long_within n m ≡ true
+pub too_long_lem : (n : ℕ) (m : List ℕ) → longest_message_within n < length m → too_long_within n m ≡ true
 unfolding too_long_within
-too_long n m h = lt-ltb (longest_message_within n) (length m) h
+too_long_lem n m h = lt-ltb (longest_message_within n) (length m) h
 
 pub not_too_long : (m : List ℕ) → length m ≤ longest_message → too_long m ≡ false
 unfolding too_long_within

@@ -363,7 +363,7 @@ pub record SameIn (c : Cipher) (f g : Form) : Type 0 where
 -- pre-authenticator is a block, is one that its form can hold.
 pub record WordsAsBytes (c : Cipher) : Type 0 where
   pub one_form : OneForm
-  pub in_words : SameIn c in_bytes in_words
+  pub in-words : SameIn c in_bytes in_words
   pub in_bytes : SameIn c in_words in_bytes
   pub words_formed : (r : RunRecord) → Proper r.preauthenticator → Formed in_words r
   pub bytes_formed : (r : ByteRecord) → Block r.preauthenticator → Formed in_bytes r
@@ -460,7 +460,7 @@ pub record DistinctMasks (c : Cipher) : Type 0 where
   pub in_bytes : (s : Source) (key iv : List ℕ) (blocks : List (List ℕ)) → NonzeroMask c key iv → Key key → Block iv → length blocks ≤ limit
       → Distinct zero_block (length blocks) (mask_at c s key iv blocks)
   -- in two words, as the calls hold them
-  pub in_words : (s : Source) (key iv : List ℕ) (blocks : List (List ℕ)) → NonzeroMask c key iv → Key key → Block iv → length blocks ≤ limit
+  pub in-words : (s : Source) (key iv : List ℕ) (blocks : List (List ℕ)) → NonzeroMask c key iv → Key key → Block iv → length blocks ≤ limit
       → Distinct zero_words (length blocks) (λ i. words_of (mask_at c s key iv blocks i))
   -- A run comes to each of its blocks, and behind the last, with the mask that is there when nothing is cut; and closing adds the one after the
   -- last of all.

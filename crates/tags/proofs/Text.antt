@@ -9,10 +9,10 @@ use Rattle.blocks.specs.Bytes.{zeros}
 use Rattle.blocks.proofs.Zeros.{stored_after, stored_front}
 
 -- the key to the front, and two blocks behind it
-pub laid_out : (key p m t₀ t₁ t₂ t₃ : List ℕ) → length p ≡ 16 → t₀ ≡ zeros 64 → t₁ ≡ take 0 t₀ ++ key ++ drop (0 + length key) t₀
+pub laid_out_lem : (key p m t₀ t₁ t₂ t₃ : List ℕ) → length p ≡ 16 → t₀ ≡ zeros 64 → t₁ ≡ take 0 t₀ ++ key ++ drop (0 + length key) t₀
     → t₂ ≡ take (length key) t₁ ++ p ++ drop (length key + 16) t₁ → t₃ ≡ take (length key + 16) t₂ ++ m ++ drop (length key + 16 + 16) t₂
     → t₃ ≡ key ++ p ++ m ++ zeros (32 - length key)
-laid_out key p m t₀ t₁ t₂ t₃ lp e₀ e₁ e₂ e₃ =
+laid_out_lem key p m t₀ t₁ t₂ t₃ lp e₀ e₁ e₂ e₃ =
     stored_after 16 (key ++ p) t₂ t₃ m (length key + 16) (64 - length key - 16) (length-append key p ∙ ap (λ (n : ℕ). length key + n) lp)
     (stored_after 16 key t₁ t₂ p (length key) (64 - length key) refl (stored_front (length key) t₀ t₁ key 64 e₀ e₁) e₂) e₃
     ∙ ap (λ (n : ℕ). key ++ p ++ m ++ zeros n) (let e : 64 - length key - 16 - 16 ≡ 32 - length key = omega arith in e)

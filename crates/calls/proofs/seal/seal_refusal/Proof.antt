@@ -12,7 +12,7 @@ use Rattle.mode.specs.Aes.{aes}
 use Rattle.mode.specs.Table.{first_row, limit, not_key, not16, too_long}
 use Rattle.fips197.proofs.Keys.{has_key}
 use Rattle.mode.proofs.Runs.{is16}
-use Rattle.mode.proofs.Rows.{row_holds, row_passes, no_row, isnt16, too_long, not_too_long}
+use Rattle.mode.proofs.Rows.{row_holds, row_passes, no_row, isnt16, too_long_lem, not_too_long}
 use Rattle.mode.proofs.Aes.{aes_lawful}
 use Rattle.mode.proofs.Finishes.{both, tag_within}
 use Rattle.mode.proofs.SealedLength.{sealed_length_lem}
@@ -33,7 +33,7 @@ returns-2 c =
 returns-3 : tie.Need-returns-3
 returns-3 c =
     let a = c.before.before.before.before.before.before.before.args in
-    sym (row_passes 1 _ _ (sym c.before.before.before.not_key.ensures ∙ c.before.before.if1.false) ∙ row_passes 2 _ _ (is16 a.iv.now c.before.if2.false) ∙ row_holds 3 _ _ (too_long limit a.message.now c.if3.true))
+    sym (row_passes 1 _ _ (sym c.before.before.before.not_key.ensures ∙ c.before.before.if1.false) ∙ row_passes 2 _ _ (is16 a.iv.now c.before.if2.false) ∙ row_holds 3 _ _ (too_long_lem limit a.message.now c.if3.true))
 
 mul-needed : tie.Need-overflow-mul-needed
 mul-needed c = search rules

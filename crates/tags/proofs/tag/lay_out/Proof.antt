@@ -7,7 +7,7 @@ use lib.ListN.{length}
 use Rattle.blocks.specs.Words.{bytes_of}
 use Rattle.blocks.proofs.Bridge.{block-bytes_of}
 use Rattle.fips197.proofs.Keys.{at_most_32}
-use Rattle.tags.proofs.Text.{laid_out}
+use Rattle.tags.proofs.Text.{laid_out_lem}
 use Rattle.tags.proofs.tag.lay_out.Statement.{statement}
 use Rattle.tags.proofs.tag.lay_out.Tie as tie
 
@@ -44,7 +44,7 @@ returns c =
     let p = q.before.before.before.before in
     let s = p.before.before.before.before in
     let a = s.args in
-    laid_out a.key.now (bytes_of a.preauthenticator) (bytes_of a.mask) a.text.now p.put.new.0 q.store.new.0 u.store2.new.0
+    laid_out_lem a.key.now (bytes_of a.preauthenticator) (bytes_of a.mask) a.text.now p.put.new.0 q.store.new.0 u.store2.new.0
     (block-bytes_of a.preauthenticator).long s.requires.1 p.put.ensures q.store.ensures u.store2.ensures
 
 pub lay-out-spec : {M : Type 1} → statement M
