@@ -24,6 +24,8 @@ FORMER = {"getD": "get_or", "bitXor": "bit_xor"}
 # names that the library's own lemmas join by a dash, and the crates do not import
 JOINED = {"le", "lt", "eq", "zero", "suc", "append", "nil", "cons", "add", "mul", "sub", "xor", "mod", "div", "length", "take", "drop", "concat"}
 KEPT = {"in-words", "in-bytes"}
+# fields that port.py has given the name that a definition takes here
+BACK = {"in_bytes": "in-bytes"}
 
 
 def texts(*ends):
@@ -136,7 +138,7 @@ def in_clauses(text, turn):
 
 
 def main():
-    table = respelled(*defined(), library()) | {w: snake(w) for w in aliases()}
+    table = respelled(*defined(), library()) | {w: snake(w) for w in aliases()} | BACK
     if "--list" in sys.argv:
         for name, new in sorted(table.items()):
             print(name, new, "  !" if new.endswith("_lem") else "")

@@ -216,7 +216,7 @@ words_as_bytes c laws =
     record {
       one_form = record { of_bytes = λ b h. (proper_words_of b h, bytes_words b h); of_words = λ w h. (block-bytes_of w, words_bytes w h) };
       in-words = same_in in_bytes in_words reads_bytes reads_words c laws;
-      in_bytes = same_in in_words in_bytes reads_words reads_bytes c laws;
+      in-bytes = same_in in_words in_bytes reads_words reads_bytes c laws;
       words_formed = λ r h.
           record {
             is_block = block-bytes_of r.preauthenticator;

@@ -68,8 +68,8 @@ module _ (c : Cipher) (laws : Lawful c) (s : Source) (key iv : List ℕ) (blocks
   unfolding zero_mask
   start_nonzero e = not_both (sym nz ∙ ap (λ (m : List ℕ). same m zero_block) e ∙ same_self zero_block)
 
-  in_bytes : Distinct zero_block (length blocks) (mask_at c s key iv blocks)
-  in_bytes =
+  in-bytes : Distinct zero_block (length blocks) (mask_at c s key iv blocks)
+  in-bytes =
       distinct_as zero_block (length blocks) (λ i. jump i (start_mask c key iv)) (mask_at c s key iv blocks) (mask_is c laws s key kb.size iv ib.long blocks)
       (distinct_less zero_block (length blocks) reach (λ i. jump i (start_mask c key iv)) (le_trans fits (lit≤ tt))
       (distinct_jumps (start_mask c key iv) (start-block c laws key kb iv ib) start_nonzero))
@@ -77,12 +77,12 @@ module _ (c : Cipher) (laws : Lawful c) (s : Source) (key iv : List ℕ) (blocks
   in-words : Distinct zero_words (length blocks) (λ i. words_of (mask_at c s key iv blocks i))
   in-words =
       distinct_words (length blocks) (mask_at c s key iv blocks)
-      (λ i l. subst Block (sym (mask_is c laws s key kb.size iv ib.long blocks i l)) (block-jump i (start_mask c key iv) (start-block c laws key kb iv ib))) in_bytes
+      (λ i l. subst Block (sym (mask_is c laws s key kb.size iv ib.long blocks i l)) (block-jump i (start_mask c key iv) (start-block c laws key kb iv ib))) in-bytes
 
 pub distinct_masks : (c : Cipher) → Lawful c → DistinctMasks c
 distinct_masks c laws =
     record {
-      in_bytes = in_bytes c laws;
+      in-bytes = in-bytes c laws;
       in-words = in-words c laws;
       of_run = λ s key iv before these i size long. of_run c laws s key size iv long before these i;
       of_closing = λ s key iv blocks r size long e.

@@ -33,7 +33,7 @@ module _ (c : Cipher) (d : DistinctMasks c) (key iv : List ℕ) (nz : NonzeroMas
   at_the_limit blocks e = (by plaintext, by ciphertext)
     where
       by : (s : Source) → Distinct zero_block limit (mask_at c s key iv blocks)
-      by s = subst (λ (n : ℕ). Distinct zero_block n (mask_at c s key iv blocks)) e (d.in_bytes s key iv blocks nz kb ib (le_of_eq e))
+      by s = subst (λ (n : ℕ). Distinct zero_block n (mask_at c s key iv blocks)) e (d.in-bytes s key iv blocks nz kb ib (le_of_eq e))
 
   pub words_at_the_limit : (s : Source) (blocks : List (List ℕ)) → length blocks ≡ limit → Distinct (record { high = 0; low = 0 }) limit (λ i. words_of (mask_at c s key iv blocks i))
   words_at_the_limit s blocks e =
@@ -43,14 +43,14 @@ module _ (c : Cipher) (d : DistinctMasks c) (key iv : List ℕ) (nz : NonzeroMas
   pub closing_differs : (s : Source) (blocks : List (List ℕ)) (r : RunRecord) (i : ℕ) → length blocks ≤ limit → r.count ≡ length blocks → i < length blocks
       → ¬ (mask_at c s key iv blocks i ≡ closing_mask c key iv r)
   closing_differs s blocks r i l e h f =
-      (d.in_bytes s key iv blocks nz kb ib l).different i (length blocks) h (le_refl (length blocks)) (f ∙ d.of_closing s key iv blocks r kb.size ib.long e)
+      (d.in-bytes s key iv blocks nz kb ib l).different i (length blocks) h (le_refl (length blocks)) (f ∙ d.of_closing s key iv blocks r kb.size ib.long e)
 
   -- nor is a mask of a run one of the blocks before it
   pub run_differs : (s : Source) (before these : List (List ℕ)) (i j : ℕ) → length before + length these ≤ limit → i ≤ length these → j < length before + i
       → ¬ (mask_at c s key iv (before ++ these) j ≡ (step_two c s key iv (length before) (take i these)).mask)
   run_differs s before these i j l h k f =
       let n = length-append before these in
-      (d.in_bytes s key iv (before ++ these) nz kb ib (omega arith)).different j (length before + i) k (omega arith)
+      (d.in-bytes s key iv (before ++ these) nz kb ib (omega arith)).different j (length before + i) k (omega arith)
       (f ∙ d.of_run s key iv before these i kb.size ib.long h)
 
 -- from a start mask of zero on every mask is zero

@@ -364,7 +364,7 @@ pub record SameIn (c : Cipher) (f g : Form) : Type 0 where
 pub record WordsAsBytes (c : Cipher) : Type 0 where
   pub one_form : OneForm
   pub in-words : SameIn c in_bytes in_words
-  pub in_bytes : SameIn c in_words in_bytes
+  pub in-bytes : SameIn c in_words in_bytes
   pub words_formed : (r : RunRecord) → Proper r.preauthenticator → Formed in_words r
   pub bytes_formed : (r : ByteRecord) → Block r.preauthenticator → Formed in_bytes r
 
@@ -457,7 +457,7 @@ zero_words = record { high = 0; low = 0 }
 -- With a start mask that is not zero, the masks of all blocks up to the limit and the one after the last are not zero, and no two of them are
 -- equal: in sealing and in checking.
 pub record DistinctMasks (c : Cipher) : Type 0 where
-  pub in_bytes : (s : Source) (key iv : List ℕ) (blocks : List (List ℕ)) → NonzeroMask c key iv → Key key → Block iv → length blocks ≤ limit
+  pub in-bytes : (s : Source) (key iv : List ℕ) (blocks : List (List ℕ)) → NonzeroMask c key iv → Key key → Block iv → length blocks ≤ limit
       → Distinct zero_block (length blocks) (mask_at c s key iv blocks)
   -- in two words, as the calls hold them
   pub in-words : (s : Source) (key iv : List ℕ) (blocks : List (List ℕ)) → NonzeroMask c key iv → Key key → Block iv → length blocks ≤ limit
