@@ -1,17 +1,16 @@
 -- Both finishes: what each makes of key, pre-authenticator and mask, and that its tags have its length.
 use mathlib.Core.Path.{◌≡◌, refl}
-use mathlib.Core.List.{List, ◌++◌}
+use mathlib.Core.List.{List}
 use Prim.Native.Nat.{ℕ, ◌-◌, ◌≤◌}
 use lib.ListN.{length, take}
 use lib.Seq.{take_at}
 use lib.Dec.{lit≤}
 use Rattle.blocks.specs.Bytes.{xor_bytes, zeros}
 use Rattle.fips197.specs.Aes.{KeyLength}
-use Rattle.fips180.specs.Sha1.{sha1}
 use Rattle.fips180.proofs.Digests.{length-sha1}
 use Rattle.mode.specs.declared.finish.Finish.{Finish as Named}
 use Rattle.mode.specs.declared.finish.Finish.TheVariants.{Cipher as NamedCipher, Sha1 as NamedSha1}
-use Rattle.mode.specs.Mode.{Cipher, Lawful, Finish, LawfulFinish, encrypt, encrypted_tag, hashed_tag, by_cipher, by_sha1, finish_named}
+use Rattle.mode.specs.Mode.{Cipher, Lawful, LawfulFinish, encrypt, encrypted_tag, hashed_tag, by_cipher, by_sha1, finish_named}
 use Rattle.mode.specs.Calls.{held_tag}
 use Rattle.mode.specs.Demands.{TwoFinishes}
 use Rattle.mode.proofs.Laws.{xor-long}

@@ -5,7 +5,7 @@ use mathlib.Core.Logic.{◌⊎◌, inl, inr, ◌↔◌}
 use mathlib.Core.List.{List, [], ◌∷◌, ◌++◌, append_assoc}
 use mathlib.Core.Option.{Option, some, none as no-message}
 use mathlib.Core.Bool.{Bool, true, false, not}
-use Prim.Native.Nat.{ℕ, suc, ◌+◌, ◌*◌, ◌-◌, ◌/◌, ◌%◌, ◌≤◌, ◌<◌}
+use Prim.Native.Nat.{ℕ, ◌+◌, ◌*◌, ◌%◌, ◌≤◌, ◌<◌}
 use native.Mathlib.Omega.{arith}
 use lib.ListN.{length, length-append}
 use lib.Seq.{length-take-le}
@@ -15,9 +15,9 @@ use Rattle.gf128.specs.Gf128.{times_x, jump}
 use Rattle.gf128.proofs.TimesX.{length-times_x}
 use Rattle.fips197.specs.Aes.{KeyLength}
 use Rattle.fips197.proofs.Keys.{is_key, has_key}
-use Rattle.mode.specs.Mode.{Cipher, Lawful, Finish, overhead, ciphertext, blocks_of, start_mask, middletext, unbroken_tag, iv_part, cipher_part, tag_part, UnbrokenCheck}
+use Rattle.mode.specs.Mode.{Cipher, Lawful, Finish, ciphertext, blocks_of, start_mask, middletext, unbroken_tag, iv_part, cipher_part, tag_part, UnbrokenCheck}
 use Rattle.mode.specs.Table.{Answer, refused, given, decide, NoneHolds, not_key, not_sealed, zero_mask, too_short}
-use Rattle.mode.specs.Calls.{outcome_by, unpad_from, unpadded, not_padded, or_empty, decrypted, plaintext_of, message_of, open_rows, open_rows_within, open_sealed}
+use Rattle.mode.specs.Calls.{unpad_from, unpadded, not_padded, or_empty, decrypted, plaintext_of, message_of, open_rows, open_rows_within, open_sealed}
 use Rattle.mode.specs.OpenBefore.{open_rows_before, open_before}
 use Rattle.mode.specs.Parallel.{Fits}
 use Rattle.mode.specs.Demands.{Refuses, NonzeroMask, Demand2d, OldSize}

@@ -538,7 +538,7 @@ abbrev pub CheckedAsSealed : Cipher → Type 0
 CheckedAsSealed c =
     (key iv : List ℕ) → Key key → Block iv → (first : ℕ) (kind : Kind) (bytes : List ℕ) (room : ℕ) → Bytes bytes
     → (r : RunRecord) → (seal_run in_words c key iv first kind bytes room).answer ≡ given r
-    → check_run in_words c key iv first (answer_bytes (seal_run in_words c key iv first kind bytes room)) ≡ given r
+    → check_run in_words c key iv first (take (seal_run in_words c key iv first kind bytes room).reported (seal_run in_words c key iv first kind bytes room).output) ≡ given r
 
 -- a joined list stays within the limit
 abbrev pub ListWithin : Type 0

@@ -4,7 +4,7 @@ use Rattle.blocks.specs.Bytes.{Bytes, concat}
 use Rattle.fips197.specs.Aes.{Key}
 use Rattle.mode.specs.Mode.{Finish, overhead, Source, plaintext, ciphertext, RunRecord, in_words, iv_part, cipher_part}
 use Rattle.mode.specs.Table.{Answer, refused, given, apart, longest_message, longest_sealed}
-use Rattle.mode.specs.Calls.{Kind, middle, last, blocks_of_run, Outcome, answer_bytes, outcome_by, blank, Calls}
+use Rattle.mode.specs.Calls.{Kind, middle, last, blocks_of_run, Outcome, outcome_by, blank, Calls}
 
 -- ---- the setting
 
@@ -168,7 +168,7 @@ merge_by (given r) xs i k =
 -- a run puts its record in its place, and beside it the answer bytes of its output; a refused one leaves it empty
 unfoldable pub record_by : Answer RunRecord → Outcome RunRecord → List Segment → ℕ → List Segment
 record_by (refused number) o xs i = xs
-record_by (given r) o xs i = set xs i (recorded (runs_in (segment xs i)) r (answer_bytes o))
+record_by (given r) o xs i = set xs i (recorded (runs_in (segment xs i)) r (take o.reported o.output))
 
 unfoldable pub head_or : ℕ → List ℕ → ℕ
 head_or d [] = d

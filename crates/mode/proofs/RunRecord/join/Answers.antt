@@ -1,0 +1,14 @@
+-- The join with nothing kept.
+use mathlib.Core.Path.{sym, ap, subst, ◌∙◌}
+use Rattle.mode.specs.declared.KeptAnswer.{KeptAnswer}
+use Rattle.mode.specs.Powers.{Keeps}
+use Rattle.mode.proofs.Powers.{keeps_none, keeping_answer}
+use Rattle.mode.proofs.RunRecord.join.Goals as goal
+
+pub join_keeping-joined-requires : goal.join_keeping-joined-requires
+join_keeping-joined-requires c = subst Keeps (sym c.none.ensures) keeps_none
+
+pub returns : goal.returns
+returns c =
+    let a = c.args in
+    ap (λ (j : KeptAnswer). j.answer) c.join_keeping-joined.ensures ∙ keeping_answer a.self a.right c.none.result
