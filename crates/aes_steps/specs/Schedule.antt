@@ -1,6 +1,6 @@
 -- THE KEY SCHEDULE, as every engine makes and takes it: a record of 241 bytes. In front stand its round keys, up to fifteen of them, then zeros;
 -- the last byte is the number of rounds. So what a cipher does by it is said for any number of rounds that it has room for.
-use Rattle.std.specs.Prelude.{List, [], ◌∷◌, ◌++◌, ◌≡◌, ℕ, ◌+◌, ◌-◌, ◌*◌, ◌/◌, ◌≤◌, ◌<◌, length, get_or}
+use Rattle.std.specs.Prelude.{List, [], ◌∷◌, ◌++◌, ◌≡◌, ℕ, ◌+◌, ◌-◌, ◌*◌, ◌/◌, ◌<◌, length, get_or}
 use Rattle.blocks.specs.Bytes.{zeros, first_blocks}
 use Rattle.fips197.specs.KeyExpansion.{key_expansion}
 use Rattle.fips197.specs.Cipher as C

@@ -1,7 +1,7 @@
 -- A schedule while its words are worked out.
 use Rattle.std.specs.Prelude.{◌≡◌, ◌⊎◌, List, [], ◌∷◌, ◌++◌, ℕ, ◌+◌, ◌*◌, ◌≤◌, ◌<◌, length, drop}
 use Rattle.blocks.specs.Bytes.{zeros}
-use Rattle.fips197.specs.Aes.{nk_of, nr_of}
+use Rattle.fips197.specs.Aes.{nr_of}
 
 -- the number of a word that is worked out, under a key of nk words: 4 or 8
 pub record KeyWords (nk i : ℕ) : Type 0 where

@@ -4,16 +4,9 @@ use mathlib.Core.Path.{ap, ◌∙◌}
 use Prim.Native.Nat.{ℕ}
 use lib.Bits.{bit_xor}
 use Rattle.fips197.proofs.Mix.{mix_once}
-use Rattle.aes_steps.proofs.state.mix.Statement.{statement}
-use Rattle.aes_steps.proofs.state.mix.Tie as tie
+use Rattle.aes_steps.proofs.state.mix.Goals as goal
 
-double-requires : tie.Need-double-requires
-double-requires c κs = search rules
-
-returns : tie.Need-returns
+pub returns : goal.returns
 returns c =
-    let a = c.before.args in
+    let a = c.args in
     ap (λ (x : ℕ). bit_xor x (bit_xor a.b (bit_xor a.c a.d))) c.double.ensures ∙ mix_once a.a a.b a.c a.d (search rules) (search rules)
-
-pub mix-spec : {M : Type 1} → statement M
-mix-spec = tie.close (tie.spec double-requires returns)

@@ -1,18 +1,16 @@
 -- By the key's words, and whether the word's number is a multiple of theirs.
-use borrow.Author.Rules.{rules}
 use borrow.Author.Tests.{eq-eqb, ne_eqb}
 use mathlib.Core.Path.{◌≡◌, sym, ap, ◌∙◌}
-use mathlib.Core.Bool.{Bool, true, false, cond}
+use mathlib.Core.Bool.{Bool, cond}
 use mathlib.Core.Logic.{◌⊎◌, inl, inr}
 use mathlib.Core.List.{List}
-use Prim.Native.Nat.{ℕ, ◌/◌, ◌%◌, ◌≤◌}
+use Prim.Native.Nat.{ℕ, ◌/◌, ◌%◌}
 use native.Mathlib.Omega.{arith}
 use lib.Dec.{eqb}
 use Rattle.blocks.specs.Bytes.{xor_bytes}
 use Rattle.fips197.specs.KeyExpansion.{rot_word, rcon}
 use Rattle.aes_steps.specs.Words.{KeyWords}
-use Rattle.aes_steps.proofs.schedule.after_sub.Statement.{statement}
-use Rattle.aes_steps.proofs.schedule.after_sub.Tie as tie
+use Rattle.aes_steps.proofs.schedule.after_sub.Goals as goal
 
 abbrev becomes : ℕ → ℕ → List ℕ → List ℕ
 becomes i nk s = cond (eqb (i % nk) 0) (xor_bytes (rot_word s) (rcon (i / nk))) s
@@ -33,31 +31,23 @@ eight nk i h n = by h.words
     by (inl e) = absurd (n e)
     by (inr e) = e
 
-turned-requires : tie.Need-turned-requires
-turned-requires c κs = search rules
+pub returns-then-nk-eq4 : goal.returns-then-nk-eq4
+returns-then-nk-eq4 c =
+    let e : c.args.nk ≡ 4 = c.if-nk-eq4.true in
+    c.turned.ensures ∙ turns c.args.i c.args.nk 4 c.args.subbed e c.requires.i_value
 
-returns : tie.Need-returns
-returns c =
-    let s = c.before.before in
-    let e : s.args.nk ≡ 4 = c.before.if1.true in
-    c.turned.ensures ∙ turns s.args.i s.args.nk 4 s.args.subbed e s.requires.1
+pub turned-requires-then-i-eq0 : goal.turned-requires-then-i-eq0
+turned-requires-then-i-eq0 c =
+    let e = eight c.args.nk c.args.i c.requires.key_words c.if-nk-eq4.false in
+    record {
+      le_round = omega (arith, c.requires.key_words.least);
+      round_bound = omega (arith, c.requires.key_words.most);
+    }
 
-turned-requires-2 : tie.Need-turned-requires-2
-turned-requires-2 c κs =
-    let s = c.before.before in
-    let e = eight s.args.nk s.args.i s.requires.0 c.before.if1.false in
-    (omega (arith, s.requires.0.least), omega (arith, s.requires.0.most))
+pub returns-then-i-eq0 : goal.returns-then-i-eq0
+returns-then-i-eq0 c =
+    let e = eight c.args.nk c.args.i c.requires.key_words c.if-nk-eq4.false in
+    c.turned-then-i-eq0.ensures ∙ turns c.args.i c.args.nk 8 c.args.subbed e c.if-i-eq0.true
 
-returns-2 : tie.Need-returns-2
-returns-2 c =
-    let s = c.before.before.before in
-    let e = eight s.args.nk s.args.i s.requires.0 c.before.before.if1.false in
-    c.turned2.ensures ∙ turns s.args.i s.args.nk 8 s.args.subbed e c.before.if2.true
-
-returns-3 : tie.Need-returns-3
-returns-3 c =
-    let s = c.before.before in
-    keeps s.args.i s.args.nk s.args.subbed (eight s.args.nk s.args.i s.requires.0 c.before.if1.false) c.if2.false
-
-pub after-sub-spec : {M : Type 1} → statement M
-after-sub-spec = tie.close (tie.spec turned-requires returns turned-requires-2 returns-2 returns-3)
+pub returns : goal.returns
+returns c = keeps c.args.i c.args.nk c.args.subbed (eight c.args.nk c.args.i c.requires.key_words c.if-nk-eq4.false) c.if-i-eq0.false

@@ -4,18 +4,14 @@ use Prim.Native.Nat.{ℕ, ◌*◌, ◌/◌, ◌%◌}
 use native.Mathlib.Omega.{arith}
 use lib.Bits.{bit_xor}
 use Rattle.blocks.specs.Field.{step}
-use Rattle.aes_steps.proofs.state.double.Statement.{statement}
-use Rattle.aes_steps.proofs.state.double.Tie as tie
+use Rattle.aes_steps.proofs.state.double.Goals as goal
 
-mul-result : tie.Need-overflow-mul-result
-mul-result c = omega arith
+pub overflow_mul-result : goal.overflow_mul-result
+overflow_mul-result c = omega arith
 
-returns : tie.Need-returns
+pub returns : goal.returns
 unfolding step
 returns c =
     let x = c.args.x in
     let e : x / 128 ≡ x / 128 % 2 = omega arith in
     ap (λ (t : ℕ). bit_xor (x * 2 % 256) (t * 0x1b)) e
-
-pub double-spec : {M : Type 1} → statement M
-double-spec = tie.close (tie.spec mul-result returns)
