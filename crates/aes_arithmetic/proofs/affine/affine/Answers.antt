@@ -1,0 +1,12 @@
+-- By what each rotation gives.
+use borrow.Author.Rules.{rules}
+use mathlib.Core.Path.{◌∙◌}
+use lib.Bits.{bit_xor}
+use Rattle.aes_arithmetic.proofs.Rotations.{affine_turns}
+use Rattle.aes_arithmetic.proofs.affine.affine.Goals as goal
+
+pub returns : goal.returns
+returns c =
+    let x = c.args.x in
+    (λ j. bit_xor (bit_xor (bit_xor (bit_xor (bit_xor x (c.rotate.ensures j)) (c.rotate-2.ensures j)) (c.rotate-3.ensures j)) (c.rotate-4.ensures j)) 0x63)
+    ∙ affine_turns x (search rules)

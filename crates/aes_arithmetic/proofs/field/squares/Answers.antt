@@ -1,0 +1,17 @@
+use borrow.Author.Rules.{rules}
+use Rattle.blocks.proofs.Tab.{fill_none, fill_more, fill_all}
+use Rattle.aes_arithmetic.proofs.field.squares.Invariants.{multiplied}
+use Rattle.aes_arithmetic.proofs.field.squares.Goals as goal
+
+pub loop-i-init : goal.loop-i-init
+loop-i-init c = (search rules, fill_none 16 _)
+
+pub loop-i-preserved : goal.loop-i-preserved
+loop-i-preserved c =
+    let a = c.args in
+    (search rules, fill_more 16 (multiplied a.a) c.loop-i.i (search rules) c.loop-i.invariant.1 c.square.ensures)
+
+pub returns : goal.returns
+returns c =
+    let a = c.args in
+    fill_all 16 (multiplied a.a) c.loop-i.i c.loop-i.invariant.0 c.loop-i-test.false c.loop-i.invariant.1
