@@ -1,7 +1,7 @@
 -- The hash finish in small cases, over the cipher of the mode's proofs/Toy: records that are opened and refused; what demand 3 forces on any
 -- calls; and wrong calls, of which it does not hold.
 use mathlib.Core.Path.{◌≡◌, refl, ap}
-use mathlib.Core.Logic.{inl, inr, ◌↔◌}
+use mathlib.Core.Logic.{inl, ◌↔◌}
 use mathlib.Core.List.{List, [], ◌∷◌, ◌++◌}
 use Prim.Native.Nat.{ℕ}
 use native.Mathlib.Omega.{arith}
