@@ -1,7 +1,7 @@
 // FIPS 197, 5.3: the rounds undone, and the two halves run backwards.
 ghost use Rattle.std.specs.Prelude.{◌≡◌, ◌+◌, ◌≤◌};
 ghost use Rattle.std.proofs.Math.Seq.{slice};
-ghost use Rattle.fips197.specs.Sbox.{inv_sbox};
+ghost use Rattle.fips197.specs.Sbox.{inv_sbox as inv_sbox_of};
 ghost use Rattle.fips197.specs.Cipher.{round_key, inv_round, inv_rounds};
 ghost use Rattle.aes_steps.specs.Schedule.{rounds_in, round_keys_in, Schedule, inv_first_half_by, inv_second_half_by};
 ghost use Rattle.aes_tables.specs.Table.{Tabulates};
@@ -9,7 +9,7 @@ ghost use Rattle.aes_tables.specs.Table.{Tabulates};
 fn inv_round(s: [u8; 16], keys: &[u8; crate::KEYS], n: usize, inv_sbox: &[u8; 256]) -> [u8; 16]
     requires schedule { Schedule keys.now }
     requires n_bound { n ≤ rounds_in keys.now }
-    requires tabulates { Tabulates inv_sbox.now inv_sbox }
+    requires tabulates { Tabulates inv_sbox.now inv_sbox_of }
     ensures { result ≡ inv_round s (round_key (round_keys_in keys.now) n) }
 {
     let a = aes_steps::state::add_round_key(s, keys, n);
@@ -28,7 +28,7 @@ fn inv_rounds(
     requires schedule { Schedule keys.now }
     requires from_le_to { from ≤ to }
     requires to_bound { to ≤ rounds_in keys.now + 1 }
-    requires tabulates { Tabulates inv_sbox.now inv_sbox }
+    requires tabulates { Tabulates inv_sbox.now inv_sbox_of }
     ensures { result ≡ inv_rounds (slice from to (round_keys_in keys.now)) s }
 {
     let mut t = s;
@@ -44,7 +44,7 @@ fn inv_rounds(
 // The first half of the rounds and the key whitening, undone.
 pub fn inv_first_half(s: [u8; 16], keys: &[u8; crate::KEYS], inv_sbox: &[u8; 256]) -> [u8; 16]
     requires schedule { Schedule keys.now }
-    requires tabulates { Tabulates inv_sbox.now inv_sbox }
+    requires tabulates { Tabulates inv_sbox.now inv_sbox_of }
     ensures { result ≡ inv_first_half_by keys.now s }
 {
     let half = aes_steps::schedule::half(keys);
@@ -55,7 +55,7 @@ pub fn inv_first_half(s: [u8; 16], keys: &[u8; crate::KEYS], inv_sbox: &[u8; 256
 // The other half undone, the last round first.
 pub fn inv_second_half(s: [u8; 16], keys: &[u8; crate::KEYS], inv_sbox: &[u8; 256]) -> [u8; 16]
     requires schedule { Schedule keys.now }
-    requires tabulates { Tabulates inv_sbox.now inv_sbox }
+    requires tabulates { Tabulates inv_sbox.now inv_sbox_of }
     ensures { result ≡ inv_second_half_by keys.now s }
 {
     let half = aes_steps::schedule::half(keys);

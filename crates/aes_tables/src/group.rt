@@ -3,7 +3,7 @@
 // their words one at a time: those rounds are compiled into work on single bytes, which words give as they are.
 ghost use Rattle.std.specs.Prelude.{◌≡◌, ◌++◌, ◌+◌, ◌*◌, ◌≤◌, length, take, drop};
 ghost use Rattle.groups.specs.Group.{block_at, block_of, Holds, in_front};
-ghost use Rattle.fips197.specs.Sbox.{inv_sbox};
+ghost use Rattle.fips197.specs.Sbox.{inv_sbox as inv_sbox_of};
 ghost use Rattle.aes_steps.specs.Schedule.{Schedule, first_half_by, second_half_by, inv_first_half_by, inv_second_half_by};
 ghost use Rattle.aes_tables.specs.Table.{Tabulates};
 ghost use Rattle.aes_tables.specs.Half.{half_of, TableOf};
@@ -91,7 +91,7 @@ fn undo_second(
 )
     requires n_bound { n ≤ 32 }
     requires schedule { Schedule keys.now }
-    requires tabulates { Tabulates inv_sbox.now inv_sbox }
+    requires tabulates { Tabulates inv_sbox.now inv_sbox_of }
     requires n_in_bounds { n * 16 ≤ length text.old }
     ensures { text.new ≡ in_front n (λ i. inv_second_half_by keys.now (block_at group.now i)) text.old }
 {

@@ -1,0 +1,13 @@
+-- What is left to do from here is what there was to do from the start.
+use mathlib.Core.Path.{◌≡◌}
+use Prim.Native.Nat.{◌≤◌, ◌-◌}
+use lib.Seq.{slice}
+use Rattle.fips197.specs.Cipher.{rounds}
+use Rattle.aes_steps.specs.Schedule.{round_keys_in}
+use Rattle.aes_tables.proofs.forward.rounds.Given as goal
+
+abbrev pub invariant-loop-i : goal.invariant-loop-i
+invariant-loop-i l = (l.i ≤ l.to) × (rounds (slice l.i l.to (round_keys_in l.keys)) l.t ≡ rounds (slice l.from l.to (round_keys_in l.keys)) l.initial.t)
+
+abbrev pub decreases-loop-i : goal.decreases-loop-i
+decreases-loop-i l = l.to - l.i

@@ -1,0 +1,12 @@
+-- The blocks that the loop has done, and the others, which are as they were.
+use Prim.Native.Nat.{◌-◌, ◌≤◌}
+use Rattle.groups.specs.Group.{block_at}
+use Rattle.groups.proofs.Loop.{During}
+use Rattle.aes_steps.specs.Schedule.{inv_second_half_by}
+use Rattle.aes_tables.proofs.group.middletexts.Given as goal
+
+abbrev pub invariant-loop-i : goal.invariant-loop-i
+invariant-loop-i l = (l.i ≤ l.n) × During l.i (λ j. inv_second_half_by l.keys (block_at l.initial.group j)) l.initial.group l.group
+
+abbrev pub decreases-loop-i : goal.decreases-loop-i
+decreases-loop-i l = l.n - l.i
