@@ -1,8 +1,8 @@
 -- What the rows leave to decide: the tag, then the padding and the room.
-use mathlib.Core.Path.{◌≡◌, refl, sym, ap, ◌∙◌}
+use mathlib.Core.Path.{◌≡◌, sym, ap, ◌∙◌}
 use mathlib.Core.Bool.{Bool, true, false, not}
 use mathlib.Core.List.{List, [], ◌∷◌, ◌++◌}
-use mathlib.Core.Option.{Option, some, none as no-message}
+use mathlib.Core.Option.{Option}
 use Prim.Native.Nat.{ℕ, ◌+◌, ◌-◌, ◌%◌, ◌≤◌, ◌<◌}
 use native.Mathlib.Omega.{arith}
 use borrow.Author.Tests.{lt-ltb, le-ltb}
@@ -13,7 +13,7 @@ use Rattle.fips197.specs.Aes.{KeyLength}
 use Rattle.mode.specs.Mode.{Finish, overhead, ciphertext, blocks_of, iv_part, cipher_part, tag_part, unbroken_tag}
 use Rattle.mode.specs.Aes.{aes}
 use Rattle.mode.specs.Table.{Answer, refused, given, decide, first_row, too_short}
-use Rattle.mode.specs.Calls.{Outcome, outcome_by, unpadded, not_padded, or_empty, plaintext_of, message_of, open_rows, open_rows_within, open_sealed, written_of, written_given}
+use Rattle.mode.specs.Calls.{outcome_by, unpadded, not_padded, or_empty, plaintext_of, message_of, open_rows, open_rows_within, open_sealed, written_of, written_given}
 use Rattle.mode.specs.Parallel.{Fits}
 use Rattle.mode.proofs.Answers.{refused_written, refused_output, given_written, given_output}
 use Rattle.mode.proofs.Passed.{head_passed, tail_passed, key_passed, sealed_lengths}

@@ -1,7 +1,7 @@
 -- The two passes over a ciphertext: its last block is a run of its own, and what is written stands in front of zeros.
-use mathlib.Core.Path.{◌≡◌, refl, sym, ap, ap₂, ◌∙◌}
+use mathlib.Core.Path.{◌≡◌, refl, sym, ap, ◌∙◌}
 use mathlib.Core.List.{List, [], ◌∷◌, ◌++◌, append-nil}
-use Prim.Native.Nat.{ℕ, suc, ◌+◌, ◌*◌, ◌-◌, ◌/◌, ◌%◌, ◌≤◌}
+use Prim.Native.Nat.{ℕ, suc, ◌+◌, ◌*◌, ◌-◌, ◌/◌, ◌%◌}
 use native.Mathlib.Omega.{arith}
 use lib.ListN.{length, take, drop, length-append, length-drop, take-append-drop}
 use lib.Seq.{drop-length, take_all, length-take-le}
@@ -17,7 +17,7 @@ use Rattle.mode.proofs.Aes.{aes_lawful}
 use Rattle.mode.proofs.Blocks.{blocks_of-append, long-blocks, count_middle}
 use Rattle.mode.proofs.Laws.{pass_mask, preauthenticator_append, preauthenticator_from, preauthenticator_long}
 use Rattle.mode.proofs.Opened.{decrypted-append, decrypted-long}
-use Rattle.runs.specs.declared.run.Task.TheVariants.{Open, Check}
+use Rattle.runs.specs.declared.run.Task.TheVariants.{Open}
 use Rattle.runs.specs.Run.{ran}
 use Rattle.runs.proofs.Text.{whole-blocks}
 use Rattle.opening.specs.Work.{Ciphertext, front_of}

@@ -1,8 +1,7 @@
 -- A run over the blocks before the last, a run over the last, and the join of both.
-use borrow.Author.Rules.{rules}
 use mathlib.Core.Path.{◌≡◌, refl, sym, ap, ap₂, subst, ◌∙◌}
 use mathlib.Core.List.{List, ◌∷◌, [], ◌++◌}
-use Prim.Native.Nat.{ℕ, ◌-◌, ◌/◌, ◌≤◌}
+use Prim.Native.Nat.{ℕ, ◌-◌, ◌/◌}
 use native.Mathlib.Omega.{arith}
 use lib.ListN.{length, take, drop}
 use Rattle.blocks.specs.Bytes.{zeros, xor_bytes, first_blocks}
@@ -21,79 +20,47 @@ use Rattle.runs.specs.Task.{writes, wrote}
 use Rattle.runs.specs.Run.{ran}
 use Rattle.opening.specs.Work.{front_of}
 use Rattle.opening.proofs.Passes.{front_taken, last_taken, preauthenticator_whole, mask_whole, plaintext_whole, none_written, all_written}
-use Rattle.opening.proofs.check.check.Statement.{statement}
-use Rattle.opening.proofs.check.check.Tie as tie
+use Rattle.opening.proofs.check.check.Goals as goal
 
-sub-front : tie.Need-overflow-sub-front
-sub-front c = search rules
-
-run-requires : tie.Need-run-requires
+pub run-before-requires : goal.run-before-requires
 unfolding writes
-run-requires c κs = let s = c.before.before.before.before in (s.requires.0.schedule, (omega arith, λ e. not_both e))
+run-before-requires c =
+    record {
+      expanded = c.requires.expands.schedule;
+      count_in_bounds = omega arith;
+      room = λ e. not_both e;
+    }
 
-sub-run : tie.Need-overflow-sub-run
-sub-run c = search rules
-
-part-run-start : tie.Need-slice-bounds-run-start
-part-run-start c = search rules
-
-part-run-end : tie.Need-slice-bounds-run-end
-part-run-end c = search rules
-
-slice-aggregate-run : tie.Need-slice-aggregate-run
-slice-aggregate-run c = search rules
-
-run-requires-2 : tie.Need-run-requires-2
-run-requires-2 c κs = search rules
-
-times-x-requires : tie.Need-times-x-requires
-times-x-requires c κs = search rules
-
-xor-requires : tie.Need-xor-requires
-xor-requires c κs = search rules
-
-tag-requires : tie.Need-tag-requires
-tag-requires c κs = search rules
-
-same_length : tie.Need-same-length
-same_length c = search rules
-
-returns : tie.Need-returns
+pub returns : goal.returns
 unfolding ran wrote
 returns c =
-    let s = c.before.before.before.before.before.before.before.before.before.before.before.before.before.before.before in
-    let a = s.args in
+    let a = c.args in
     let t = finish_named a.finish in
-    let h = s.requires.1 in
+    let h = c.requires.ciphertext in
     let key = a.key.now in
     let start = bytes_of a.start in
     let text = a.text.now in
-    let k = s.requires.0.of in
-    let hk : KeyLength key = subst KeyLength k s.requires.0.schedule.size in
+    let k = c.requires.expands.of in
+    let hk : KeyLength key = subst KeyLength k c.requires.expands.schedule.size in
     let hm = (block-bytes_of a.start).long in
-    let front = c.before.before.before.before.before.before.before.before.before.before.run in
-    let end = c.before.before.before.before.run2 in
+    let front = c.run-before in
+    let end = c.run-end in
     let p : ran Check (key_of a.keys.now) (first_blocks ((length text - 16) / 16) (padded text)) start zero_block ≡ pass aes ciphertext key (blocks_of (take (length text - 16) text)) start zero_block =
     λ i. ran Check (k i) (front_taken text h i) start zero_block in
     let m = front.ensures.masked ∙ ap (λ (z : Pass). z.mask) p in
     let q : ran Open (key_of a.keys.now) (first_blocks 1 (padded (take (length text - (length text - 16)) (drop (length text - 16) text)))) (bytes_of front.result.mask) zero_block ≡ ran Open key (drop (length text - 16) text ∷ []) (pass aes ciphertext key (blocks_of (take (length text - 16) text)) start zero_block).mask zero_block =
     λ i. ran Open (k i) (last_taken text h _ (back_is (length text - 16) text) i) (m i) zero_block in
-    let w = all_written 16 _ (zeros 16) end.new.1.1.1.1.1.0 refl end.ensures.written ∙ ap (λ (z : Pass). z.output) q in (
-      record {
+    let w = all_written 16 _ (zeros 16) end.new.out refl end.ensures.written ∙ ap (λ (z : Pass). z.output) q in record {
+      answer = record {
         tagged =
-            c.tag.ensures
+            c.tag-tag.ensures
             ∙ ap₂ (λ (x u : List ℕ). held_tag (t.tag_from aes key x u))
-            (c.before.xor.ensures
-            ∙ ap₂ xor_bytes (c.before.before.times-x.ensures ∙ ap times_x (front.ensures.authenticated ∙ ap (λ (z : Pass). z.preauthenticator) p)) (end.ensures.authenticated ∙ ap (λ (z : Pass). z.preauthenticator) q)
+            (c.xor-preauthenticator.ensures
+            ∙ ap₂ xor_bytes (c.times_x-moved.ensures ∙ ap times_x (front.ensures.authenticated ∙ ap (λ (z : Pass). z.preauthenticator) p)) (end.ensures.authenticated ∙ ap (λ (z : Pass). z.preauthenticator) q)
             ∙ sym (preauthenticator_whole text h key start hk hm))
             (end.ensures.masked ∙ ap (λ (z : Pass). z.mask) q ∙ sym (mask_whole text h key start hk hm));
         opened = ap (λ (x : List ℕ). front_of key start text ++ x) w ∙ plaintext_whole text h key start hk hm;
-        long = end.auto.1.1.1.1.1.0;
-      },
-      none_written (ran Check (key_of a.keys.now) (first_blocks ((length text - 16) / 16) (padded text)) start zero_block).output a.out.now front.new.1.1.1.1.1.0 front.ensures.long front.ensures.written,
-    )
-
-pub check-spec : {M : Type 1} → statement M
-check-spec =
-    tie.close
-    (tie.spec sub-front run-requires sub-run part-run-start part-run-end slice-aggregate-run run-requires-2 times-x-requires xor-requires tag-requires same_length returns)
+        long = end.auto.out;
+      };
+      output = none_written (ran Check (key_of a.keys.now) (first_blocks ((length text - 16) / 16) (padded text)) start zero_block).output a.out.now front.new.out front.ensures.long front.ensures.written;
+    }
