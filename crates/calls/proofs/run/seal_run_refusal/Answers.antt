@@ -1,5 +1,4 @@
 -- The rows that checking has too, and then 5.
-use borrow.Author.Rules.{rules}
 use borrow.Author.Tests.{le-ltb, lt-ltb}
 use mathlib.Core.Path.{◌≡◌, sym, ap, ◌∙◌}
 use mathlib.Core.Bool.{Bool}
@@ -16,8 +15,13 @@ use Rattle.calls.specs.Layout.{kind_of, laid_out_length}
 use Rattle.calls.specs.Work.{run_rows}
 use Rattle.calls.proofs.Fits.{run_aligned}
 use Rattle.calls.proofs.LaidOut.{count_laid_out, shared_rows, shared_rows_lem}
-use Rattle.calls.proofs.run.seal_run_refusal.Statement.{statement}
+use Rattle.calls.proofs.run.seal_run_refusal.Goals as goal
 use Rattle.calls.proofs.run.seal_run_refusal.Tie as tie
+use Rattle.calls.proofs.run.seal_run_refusal.Lts as lts
+use Rattle.calls.proofs.run.seal_run_refusal.Reads as reads
+
+abbrev At_after_run_refusal : Type 0
+At_after_run_refusal = lts.After-run_refusal tie.the-claims reads.Pre reads.Post
 
 module _ (key iv : List ℕ) (first : ℕ) (l : Bool) (bytes : List ℕ) (room : ℕ) where
   abbrev size : ℕ
@@ -51,36 +55,26 @@ module _ (key iv : List ℕ) (first : ℕ) (l : Bool) (bytes : List ℕ) (room :
     enough h = sym (five-left ∙ row_passes 5 _ _ (le-ltb room needed (rw needed-is h)) ∙ no_row)
 
 -- the shared rows, at the length as it is laid out
-shared_at : (c : tie.After-run-refusal)
-    → let a = c.before.before.before.before.before.args in
-    c.run-refusal.result ≡ first_row (run_rows a.key.now a.iv.now a.first (laid_out_length a.last (length a.bytes.now)))
+shared_at : (c : At_after_run_refusal)
+    → let a = c.args in
+    c.run_refusal-refusal.result ≡ first_row (run_rows a.key.now a.iv.now a.first (laid_out_length a.last (length a.bytes.now)))
 shared_at c =
-    let a = c.before.before.before.before.before.args in
-    c.run-refusal.ensures ∙ ap (λ (n : ℕ). first_row (run_rows a.key.now a.iv.now a.first n)) c.before.laid-out-length.ensures
+    let a = c.args in
+    c.run_refusal-refusal.ensures ∙ ap (λ (n : ℕ). first_row (run_rows a.key.now a.iv.now a.first n)) c.laid_out_length-size.ensures
 
-laid-out-length-requires : tie.Need-laid-out-length-requires
-laid-out-length-requires c κs = search rules
+pub returns-then-refusal-ne0 : goal.returns-then-refusal-ne0
+returns-then-refusal-ne0 c =
+    let a = c.args in
+    shared-refuse a.key.now a.iv.now a.first a.last a.bytes.now a.room _ (shared_at c.before.before) c.if-refusal-ne0.true
 
-run-refusal-requires : tie.Need-run-refusal-requires
-run-refusal-requires c κs = search rules
+pub returns-then-room-size : goal.returns-then-room-size
+returns-then-room-size c =
+    let a = c.args in
+    let h : a.room < laid_out_length a.last (length a.bytes.now) = omega (arith, c.laid_out_length-size.ensures) in
+    short a.key.now a.iv.now a.first a.last a.bytes.now a.room (sym (shared_at c.before.before.before) ∙ c.if-refusal-ne0.false) h
 
-returns : tie.Need-returns
+pub returns : goal.returns
 returns c =
-    let a = c.before.before.before.before.before.before.args in
-    shared-refuse a.key.now a.iv.now a.first a.last a.bytes.now a.room _ (shared_at c.before) c.if1.true
-
-returns-2 : tie.Need-returns-2
-returns-2 c =
-    let a = c.before.before.before.before.before.before.before.args in
-    let h : a.room < laid_out_length a.last (length a.bytes.now) = omega (arith, c.before.before.before.laid-out-length.ensures) in
-    short a.key.now a.iv.now a.first a.last a.bytes.now a.room (sym (shared_at c.before.before) ∙ c.before.if1.false) h
-
-returns-3 : tie.Need-returns-3
-returns-3 c =
-    let a = c.before.before.before.before.before.before.before.args in
-    let h : laid_out_length a.last (length a.bytes.now) ≤ a.room = omega (arith, c.before.before.before.laid-out-length.ensures) in
-    enough a.key.now a.iv.now a.first a.last a.bytes.now a.room (sym (shared_at c.before.before) ∙ c.before.if1.false) h
-
-pub seal-run-refusal-spec : {M : Type 1} → statement M
-seal-run-refusal-spec =
-    tie.close (tie.spec laid-out-length-requires run-refusal-requires returns returns-2 returns-3)
+    let a = c.args in
+    let h : laid_out_length a.last (length a.bytes.now) ≤ a.room = omega (arith, c.laid_out_length-size.ensures) in
+    enough a.key.now a.iv.now a.first a.last a.bytes.now a.room (sym (shared_at c.before.before.before) ∙ c.if-refusal-ne0.false) h
