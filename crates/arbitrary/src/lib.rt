@@ -4,4 +4,4 @@
 // crate.
 pub mod exported; // exported.rt: the fourteen functions for C and Rust
 pub mod records; // records.rt: joins of run records
-pub mod cipher; // cipher.rt: the bare cipher
+pub mod bare_cipher; // bare_cipher.rt: the bare cipher
