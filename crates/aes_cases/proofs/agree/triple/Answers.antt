@@ -1,0 +1,17 @@
+-- A key that was not refused has one of the two lengths.
+use borrow.Author.Rules.{rules}
+use mathlib.Core.Path.{sym, ◌∙◌}
+use Rattle.fips197.proofs.Keys.{has_key}
+use Rattle.aes_cases.proofs.agree.triple.Goals as goal
+
+pub from_plaintext-forwards-requires : goal.from_plaintext-forwards-requires
+from_plaintext-forwards-requires c = has_key _ (sym c.not_key.ensures ∙ c.if-not_key.false)
+
+pub from_ciphertext-backwards-requires : goal.from_ciphertext-backwards-requires
+from_ciphertext-backwards-requires c = has_key _ (sym c.not_key.ensures ∙ c.if-not_key.false)
+
+pub encrypted-requires : goal.encrypted-requires
+encrypted-requires c = has_key _ (sym c.not_key.ensures ∙ c.if-not_key.false)
+
+pub decrypted-requires : goal.decrypted-requires
+decrypted-requires c = has_key _ (sym c.not_key.ensures ∙ c.if-not_key.false)

@@ -1,0 +1,10 @@
+-- At most one bit agrees at each turn.
+use borrow.Author.Rules.{rules}
+use Prim.Native.Nat.{◌≤◌, ◌-◌}
+use Rattle.cases.proofs.damage.opened.Given as goal
+
+abbrev pub invariant-loop-bit : goal.invariant-loop-bit
+invariant-loop-bit l = (l.bit ≤ 512) × (l.agreed ≤ l.bit)
+
+abbrev pub decreases-loop-bit : goal.decreases-loop-bit
+decreases-loop-bit l = 512 - l.bit
