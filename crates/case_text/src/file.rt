@@ -1,16 +1,33 @@
 // A data file.
-ghost use Rattle.io.specs.Counts.{IsPrefixLen};
+ghost use Rattle.std.specs.Prelude.{◌≤◌, length, IfOk};
 
-// Reads a file into a buffer, and gives how many bytes it has. Where there is no such file they are none, and the program says why.
-pub fn read(path: &[u8], buffer: &mut [u8]) -> usize
-    ensures { IsPrefixLen result buffer.new }
+use std::fs::File;
+use std::io;
+use std::io::Read;
+use std::rt::Files;
+
+// The most bytes of a data file that a program here reads.
+pub const MOST: usize = 65536;
+
+// Reads until a buffer is full or the input ends, and gives how many bytes were read.
+pub fn read_full(input: &mut impl Read, buffer: &mut [u8]) -> io::Result<usize>
+    ensures { IfOk result (λ n. n ≤ length buffer.new) }
 {
-    let file = os::open_read(path);
-    if file < 0 {
-        os::fail(path);
-        return 0;
+    let mut done: usize = 0;
+    while done < buffer.len() {
+        let n = input.read(&mut buffer[done..])?;
+        if n == 0 {
+            break;
+        }
+        done += n;
     }
-    let n = io::read_full(file, buffer);
-    libc::close(file);
-    n
+    Ok(done)
+}
+
+// Reads a file into a buffer, and gives how many bytes it has. Where there is no such file it is an error.
+pub fn read(rt: &impl Files, path: &str, buffer: &mut [u8]) -> io::Result<usize>
+    ensures { IfOk result (λ n. n ≤ length buffer.new) }
+{
+    let mut file = File::open(rt, path)?;
+    read_full(&mut file, buffer)
 }

@@ -1,5 +1,7 @@
 #![tactic(auto)]
 // What the case programs share that is plain bytes and text.
+use std::io;
+
 pub mod bytes; // bytes.rt: parts of slices, and comparisons
 pub mod hex; // hex.rt: bytes from hexadecimal digits
 pub mod random; // random.rt: a generator
@@ -9,11 +11,7 @@ pub mod words; // words.rt: the words and numbers of a line
 pub mod columns; // columns.rt: the columns of a case
 
 // `name: agreed of all`
-pub fn report(name: &[u8], agreed: usize, all: usize) {
-    io::write_all(1, name);
-    io::write_all(1, b": ");
-    io::print_decimal(1, agreed as u64);
-    io::write_all(1, b" of ");
-    io::print_decimal(1, all as u64);
-    io::write_all(1, b"\n");
+pub fn report(rt: &impl Print, name: &[u8], agreed: usize, all: usize) -> io::Result<()> {
+    rt.write_all(name)?;
+    println!(rt; ": {agreed} of {all}")
 }

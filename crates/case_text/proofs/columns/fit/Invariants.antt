@@ -1,5 +1,4 @@
 -- One column a turn.
-use borrow.Author.Rules.{rules}
 use Prim.Native.Nat.{◌≤◌, ◌-◌}
 use lib.ListN.{length}
 use Rattle.case_text.proofs.columns.fit.Given as goal

@@ -1,6 +1,5 @@
 -- Every digit is below 16, and two digits make a byte.
-use borrow.Author.Rules.{rules}
-use Prim.Native.Nat.{◌≤◌, ◌-◌}
+use Prim.Native.Nat.{◌≤◌}
 use lib.ListN.{length}
 use mathlib.Core.Path.{◌≡◌}
 use Rattle.case_text.proofs.hex.bytes_at.Given as goal

@@ -1,6 +1,5 @@
 -- One byte a turn, in a slice whose length no turn changes.
-use borrow.Author.Rules.{rules}
-use Prim.Native.Nat.{◌≤◌, ◌-◌}
+use Prim.Native.Nat.{◌≤◌}
 use lib.ListN.{length}
 use mathlib.Core.Path.{◌≡◌}
 use Rattle.case_text.proofs.random.fill.Given as goal

@@ -1,5 +1,4 @@
 -- One byte a turn.
-use borrow.Author.Rules.{rules}
 use Prim.Native.Nat.{◌≤◌, ◌-◌}
 use lib.ListN.{length}
 use Rattle.case_text.proofs.words.end_at.Given as goal

@@ -1,5 +1,4 @@
 -- A remainder is below its divisor.
-use borrow.Author.Rules.{rules}
 use native.Mathlib.Nat.{mod-lt}
 use Rattle.case_text.proofs.random.Random.below.Goals as goal
 
