@@ -6,9 +6,11 @@ ghost use Rattle.std.specs.Prelude.{◌≤◌};
 use crate::keys::{iv_beside, keys, lengthened};
 use case_text::bytes::{front, starts_with};
 use case_text::columns::is_call;
-use case_text::report;
 use case_text::words::{line_end, number};
+use case_text::{file, report};
 use mode::finish::Finish;
+use std::io;
+use std::rt::Files;
 
 mod keys; // keys.rt: keys and IVs, by their lengths
 mod message; // message.rt: a line that seals a message
@@ -94,18 +96,18 @@ fn cases_of(line: &[u8]) -> usize
 }
 
 // The group whose line this is. Before the first group there is none to report.
-fn report_group(line: &[u8], agreed: usize, all: usize) {
+fn report_group(rt: &impl Print, line: &[u8], agreed: usize, all: usize) -> io::Result<()> {
     if line.len() < 6 {
         if 0 < all {
-            report(b"no group", 0, all);
+            report(rt, b"no group", 0, all)?;
         }
-        return;
+        return Ok(());
     }
-    report(&line[6..], agreed, all);
+    report(rt, &line[6..], agreed, all)
 }
 
 // Runs the cases of a text with a finish, under the paper's key and IV, or under the zero key and the IV under which its start mask is zero.
-pub fn run_text(finish: Finish, zero: bool, text: &[u8]) {
+pub fn run_text(rt: &impl Print, finish: Finish, zero: bool, text: &[u8]) -> io::Result<()> {
     let mut from: usize = 0;
     let mut to: usize = 0;
     let mut agreed: usize = 0;
@@ -115,7 +117,7 @@ pub fn run_text(finish: Finish, zero: bool, text: &[u8]) {
         let end = line_end(text, at);
         let line = &text[at..end];
         if starts_with(line, b"group ") {
-            report_group(&text[from..to], agreed, all);
+            report_group(rt, &text[from..to], agreed, all)?;
             from = at;
             to = end;
             agreed = 0;
@@ -127,12 +129,17 @@ pub fn run_text(finish: Finish, zero: bool, text: &[u8]) {
         all += cases_of(line);
         at = end + 1;
     }
-    report_group(&text[from..to], agreed, all);
+    report_group(rt, &text[from..to], agreed, all)
 }
 
 // The cases of a data file.
-pub fn run_file(finish: Finish, zero: bool, path: &[u8]) {
-    let mut buffer = io::large_buffer();
-    let n = case_text::file::read(path, &mut buffer);
-    run_text(finish, zero, &buffer[..n]);
+pub fn run_file(
+    rt: &(impl Files + Print),
+    finish: Finish,
+    zero: bool,
+    path: &str,
+) -> io::Result<()> {
+    let mut buffer = [0u8; file::MOST];
+    let n = file::read(rt, path, &mut buffer)?;
+    run_text(rt, finish, zero, &buffer[..n])
 }

@@ -5,9 +5,12 @@ ghost use Rattle.std.specs.Prelude.{◌≤◌};
 use crate::call::{opened_into, tag_length};
 use case_records::answer::answered;
 use case_text::bytes::{front, front_mut, one_if};
+use case_text::file;
 use case_text::random::noise;
 use case_text::words::{line_end, spelt, word};
 use mode::finish::Finish;
+use std::io;
+use std::rt::Files;
 
 // The most bytes of a record.
 const SEALED: usize = 192;
@@ -147,8 +150,8 @@ pub fn run(finish: Finish, text: &[u8]) -> Agreed {
 }
 
 // The lines of a data file.
-pub fn run_file(finish: Finish, path: &[u8]) -> Agreed {
-    let mut buffer = io::large_buffer();
-    let n = case_text::file::read(path, &mut buffer);
-    run(finish, &buffer[..n])
+pub fn run_file(rt: &impl Files, finish: Finish, path: &str) -> io::Result<Agreed> {
+    let mut buffer = [0u8; file::MOST];
+    let n = file::read(rt, path, &mut buffer)?;
+    Ok(run(finish, &buffer[..n]))
 }

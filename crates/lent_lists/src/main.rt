@@ -9,6 +9,7 @@ use case_records::answer::{blank, gives_record, record};
 use case_text::bytes::one_if;
 use case_text::hex::block;
 use mode::{RecordAnswer, RunRecord};
+use std::io;
 
 // The first n of three records, lent as a list and joined.
 fn join(records: [RunRecord; 3], n: usize) -> RecordAnswer
@@ -123,10 +124,10 @@ fn beyond() -> usize {
     agreed(alone, first, last, huge)
 }
 
-fn main() {
-    case_text::report(b"lent lists that join", joined(), 4);
-    case_text::report(b"lent lists with a power kept", kept(), 4);
-    case_text::report(b"refusal 9 of a lent list", none(), 4);
-    case_text::report(b"refusal 8 of a lent list", apart(), 4);
-    case_text::report(b"refusal 4 of a lent list", beyond(), 4);
+fn main(rt: HostRuntime) -> io::Result<()> {
+    case_text::report(&rt, b"lent lists that join", joined(), 4)?;
+    case_text::report(&rt, b"lent lists with a power kept", kept(), 4)?;
+    case_text::report(&rt, b"refusal 9 of a lent list", none(), 4)?;
+    case_text::report(&rt, b"refusal 8 of a lent list", apart(), 4)?;
+    case_text::report(&rt, b"refusal 4 of a lent list", beyond(), 4)
 }

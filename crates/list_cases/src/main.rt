@@ -8,6 +8,7 @@ use case_text::bytes::one_if;
 use case_text::hex::block;
 use case_text::report;
 use mode::{KeptAnswer, RunRecord};
+use std::io;
 
 mod words; // words.rt: two words for sixteen bytes
 
@@ -211,22 +212,28 @@ fn powers_refused() -> usize {
         + takes(of3(1048576, 1, 0, 1, 1, 1), 0)
 }
 
-fn main() {
-    report(b"lists that join", joined(), 5);
-    report(b"lists with empty runs", empty_runs(), 4);
-    report(b"refusal 8 of a list", apart(), 6);
-    report(b"refusal 4 of a list", beyond(), 4);
-    report(b"refusal 4 of an earlier record", beyond_before(), 4);
-    report(b"lists with a power kept", kept(), 4);
-    report(b"powers for right records of one count", powers(), 5);
+fn main(rt: HostRuntime) -> io::Result<()> {
+    report(&rt, b"lists that join", joined(), 5)?;
+    report(&rt, b"lists with empty runs", empty_runs(), 4)?;
+    report(&rt, b"refusal 8 of a list", apart(), 6)?;
+    report(&rt, b"refusal 4 of a list", beyond(), 4)?;
+    report(&rt, b"refusal 4 of an earlier record", beyond_before(), 4)?;
+    report(&rt, b"lists with a power kept", kept(), 4)?;
+    report(&rt, b"powers for right records of one count", powers(), 5)?;
     report(
+        &rt,
         b"powers for right records of several counts",
         powers_anew(),
         5,
-    );
-    report(b"powers for a list that is refused", powers_refused(), 5);
-    report(b"bytes and words", words::forms(), 4);
-    report(b"masks in words", words::masks(), 4);
-    report(b"jumps of 1 in words", words::jumps_of_one(), 5);
-    report(b"records in words", words::records(), 4);
+    )?;
+    report(
+        &rt,
+        b"powers for a list that is refused",
+        powers_refused(),
+        5,
+    )?;
+    report(&rt, b"bytes and words", words::forms(), 4)?;
+    report(&rt, b"masks in words", words::masks(), 4)?;
+    report(&rt, b"jumps of 1 in words", words::jumps_of_one(), 5)?;
+    report(&rt, b"records in words", words::records(), 4)
 }

@@ -2,7 +2,9 @@
 // The vector program of document 01. It reads 48 bytes, a key, an IV and one block, and prints the start mask, the middletext, the
 // ciphertext block and the tag. For any other length of input, or where a call is refused, it prints nothing.
 use blocks::words::{Words, to_bytes};
+use case_text::file::read_full;
 use mode::finish::Finish;
+use std::io;
 
 // The digit of the low four bits, in upper case.
 fn digit(x: u8) -> u8 {
@@ -20,12 +22,12 @@ fn digits(block: [u8; 16]) -> [u8; 32] {
 }
 
 // The label, one space, 32 digits.
-fn print_line(label: &[u8], block: [u8; 16]) {
+fn print_line(rt: &impl Print, label: &[u8], block: [u8; 16]) -> io::Result<()> {
     let text = digits(block);
-    io::write_all(1, label);
-    io::write_all(1, b" ");
-    io::write_all(1, &text);
-    io::write_all(1, b"\n");
+    rt.write_all(label)?;
+    print!(rt; " ")?;
+    rt.write_all(&text)?;
+    println!(rt)
 }
 
 fn start_mask(key: [u8; 16], iv: [u8; 16]) -> Words {
@@ -39,34 +41,34 @@ fn tag_block(tag: [u8; mode::finish::LONGEST_TAG]) -> [u8; 16] {
 }
 
 // The block goes through a middle run at block 0. The pre-authenticator of one block is its middletext.
-fn show(key: [u8; 16], iv: [u8; 16], block: [u8; 16]) {
+fn show(rt: &impl Print, key: [u8; 16], iv: [u8; 16], block: [u8; 16]) -> io::Result<()> {
     let mut out = [0u8; 16];
     let sealed = calls::run::seal_run(&key, &iv, 0, false, &block, &mut out);
     if sealed.refusal != 0 {
-        return;
+        return Ok(());
     }
     let run = sealed.run;
     let closed = tags::record::close(Finish::Cipher, &key, &iv, run);
     if closed.refusal != 0 {
-        return;
+        return Ok(());
     }
     let middletext = run.preauthenticator;
     let tag = closed.tag;
-    print_line(b"R1", to_bytes(start_mask(key, iv)));
-    print_line(b"T1", to_bytes(middletext));
-    print_line(b"C1", out);
-    print_line(b"AUTH", tag_block(tag));
+    print_line(rt, b"R1", to_bytes(start_mask(key, iv)))?;
+    print_line(rt, b"T1", to_bytes(middletext))?;
+    print_line(rt, b"C1", out)?;
+    print_line(rt, b"AUTH", tag_block(tag))
 }
 
 // The buffer is larger than the input may be, so that a longer input shows.
-fn main() {
+fn main(rt: HostRuntime) -> io::Result<()> {
     let mut input = [0u8; 64];
-    let n = io::read_full(0, &mut input);
+    let n = read_full(&mut rt.reader(), &mut input)?;
     if n != 48 {
-        return;
+        return Ok(());
     }
     let key = blocks::block::load(&input, 0);
     let iv = blocks::block::load(&input, 16);
     let block = blocks::block::load(&input, 32);
-    show(key, iv, block);
+    show(&rt, key, iv, block)
 }
