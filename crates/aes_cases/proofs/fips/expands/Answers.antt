@@ -1,8 +1,5 @@
-use borrow.Author.Rules.{rules}
 use mathlib.Core.Path.{sym, ◌∙◌}
 use Rattle.fips197.proofs.Keys.{has_key}
-use Prim.Native.Nat.{◌≤◌, ◌-◌}
-use lib.ListN.{length}
 use Rattle.aes_cases.proofs.fips.expands.Goals as goal
 
 pub expand-keys-requires : goal.expand-keys-requires

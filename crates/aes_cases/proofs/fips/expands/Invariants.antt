@@ -1,7 +1,4 @@
 -- At most one word agrees at each turn.
-use borrow.Author.Rules.{rules}
-use mathlib.Core.Path.{sym, ◌∙◌}
-use Rattle.fips197.proofs.Keys.{has_key}
 use Prim.Native.Nat.{◌≤◌, ◌-◌}
 use lib.ListN.{length}
 use Rattle.aes_cases.proofs.fips.expands.Given as goal

@@ -1,6 +1,5 @@
 -- Every digit is below 16, and two digits make a byte.
-use borrow.Author.Rules.{rules}
-use Prim.Native.Nat.{◌≤◌, ◌-◌}
+use Prim.Native.Nat.{◌≤◌}
 use Rattle.aes_cases.proofs.hex.block_at.Given as goal
 
 abbrev pub invariant-loop-i : goal.invariant-loop-i

@@ -1,6 +1,5 @@
 -- At most one entry agrees at each turn.
-use borrow.Author.Rules.{rules}
-use Prim.Native.Nat.{◌≤◌, ◌-◌}
+use Prim.Native.Nat.{◌≤◌}
 use Rattle.aes_cases.proofs.sboxes.entries.Given as goal
 
 abbrev pub invariant-loop-i : goal.invariant-loop-i

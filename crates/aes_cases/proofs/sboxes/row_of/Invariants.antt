@@ -1,6 +1,5 @@
 -- Every byte of a row is below 256.
-use borrow.Author.Rules.{rules}
-use Prim.Native.Nat.{◌≤◌, ◌-◌}
+use Prim.Native.Nat.{◌≤◌}
 use Rattle.aes_cases.proofs.sboxes.row_of.Given as goal
 
 abbrev pub invariant-loop-i : goal.invariant-loop-i

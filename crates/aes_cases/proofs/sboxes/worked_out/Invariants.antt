@@ -1,5 +1,4 @@
 -- At most 32 entries agree at each turn.
-use borrow.Author.Rules.{rules}
 use Prim.Native.Nat.{◌≤◌, ◌-◌, ◌*◌}
 use Rattle.aes_cases.proofs.sboxes.worked_out.Given as goal
 
