@@ -1,5 +1,4 @@
 -- A key that was not refused has one of the two lengths.
-use borrow.Author.Rules.{rules}
 use mathlib.Core.Path.{sym, ◌∙◌}
 use Rattle.fips197.proofs.Keys.{has_key}
 use Rattle.case_tools.proofs.aes.encrypt.Goals as goal

@@ -1,5 +1,4 @@
 -- A tag by either finish has at most 20 bytes.
-use borrow.Author.Rules.{rules}
 use native.Mathlib.Omega.{arith}
 use Rattle.mode.proofs.Finishes.{tag_within}
 use Rattle.case_tools.proofs.call.tag_length.Goals as goal

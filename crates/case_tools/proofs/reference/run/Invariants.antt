@@ -1,5 +1,4 @@
 -- A turn reads one line, and counts at most one of each.
-use borrow.Author.Rules.{rules}
 use Prim.Native.Nat.{◌≤◌, ◌+◌, ◌-◌}
 use lib.ListN.{length}
 use Rattle.case_tools.proofs.reference.run.Given as goal
