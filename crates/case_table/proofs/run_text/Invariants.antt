@@ -1,5 +1,4 @@
 -- A turn reads one line, and counts at most one case.
-use borrow.Author.Rules.{rules}
 use Prim.Native.Nat.{◌≤◌, ◌+◌, ◌-◌}
 use lib.ListN.{length}
 use Rattle.case_table.proofs.run_text.Given as goal
