@@ -1,6 +1,5 @@
 -- One byte a turn, which is two digits.
-use borrow.Author.Rules.{rules}
-use Prim.Native.Nat.{◌≤◌, ◌-◌}
+use Prim.Native.Nat.{◌≤◌}
 use Rattle.vector.proofs.digits.Given as goal
 
 abbrev pub invariant-loop-i : goal.invariant-loop-i
