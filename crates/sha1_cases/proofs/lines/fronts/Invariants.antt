@@ -1,5 +1,4 @@
 -- A turn reads one line, which lies within the file, and the count goes up by at most one.
-use borrow.Author.Rules.{rules}
 use Prim.Native.Nat.{◌≤◌, ◌-◌}
 use lib.ListN.{length}
 use Rattle.sha1_cases.proofs.lines.fronts.Given as goal
