@@ -1,5 +1,4 @@
 -- One run at each turn, into an output whose length no turn changes.
-use borrow.Author.Rules.{rules}
 use Prim.Native.Nat.{◌≤◌, ◌-◌}
 use lib.ListN.{length}
 use mathlib.Core.Path.{◌≡◌}

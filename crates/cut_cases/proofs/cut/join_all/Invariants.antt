@@ -1,5 +1,4 @@
 -- One record less is left at each turn.
-use borrow.Author.Rules.{rules}
 use Prim.Native.Nat.{◌≤◌}
 use Rattle.cut_cases.proofs.cut.join_all.Given as goal
 

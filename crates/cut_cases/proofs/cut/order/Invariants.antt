@@ -1,6 +1,5 @@
 -- Two numbers change places at each turn.
-use borrow.Author.Rules.{rules}
-use Prim.Native.Nat.{◌≤◌, ◌-◌}
+use Prim.Native.Nat.{◌≤◌}
 use Rattle.cut_cases.proofs.cut.order.Given as goal
 
 abbrev pub invariant-loop-i : goal.invariant-loop-i

@@ -1,6 +1,5 @@
 -- No start is beyond the last block.
-use borrow.Author.Rules.{rules}
-use Prim.Native.Nat.{◌≤◌, ◌-◌}
+use Prim.Native.Nat.{◌≤◌}
 use Rattle.cut_cases.proofs.cut.starts.Given as goal
 
 abbrev pub invariant-loop-i : goal.invariant-loop-i

@@ -1,5 +1,4 @@
 -- One record moves down at each turn.
-use borrow.Author.Rules.{rules}
 use Prim.Native.Nat.{◌-◌}
 use Rattle.cut_cases.proofs.cut.without.Given as goal
 

@@ -1,5 +1,4 @@
 -- Each count goes up by at most one at each turn.
-use borrow.Author.Rules.{rules}
 use Prim.Native.Nat.{◌≤◌, ◌-◌}
 use Rattle.cut_cases.proofs.cuts.run.Given as goal
 
