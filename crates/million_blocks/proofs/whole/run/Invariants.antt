@@ -1,5 +1,4 @@
 -- Each run has at least one block, and adds at most two cases and one.
-use borrow.Author.Rules.{rules}
 use Prim.Native.Nat.{◌≤◌, ◌*◌, ◌-◌}
 use Rattle.million_blocks.proofs.whole.run.Given as goal
 
