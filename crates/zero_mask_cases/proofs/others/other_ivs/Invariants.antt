@@ -1,6 +1,5 @@
 -- One IV a turn, and at most one case.
-use borrow.Author.Rules.{rules}
-use Prim.Native.Nat.{◌≤◌, ◌-◌}
+use Prim.Native.Nat.{◌≤◌}
 use Rattle.zero_mask_cases.proofs.others.other_ivs.Given as goal
 
 abbrev pub invariant-loop-i : goal.invariant-loop-i
