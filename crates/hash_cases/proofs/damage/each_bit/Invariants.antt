@@ -1,5 +1,4 @@
 -- At most one bit agrees at each turn.
-use borrow.Author.Rules.{rules}
 use Prim.Native.Nat.{◌≤◌, ◌-◌}
 use Rattle.hash_cases.proofs.damage.each_bit.Given as goal
 
