@@ -1,5 +1,4 @@
 -- At most one bit agrees at each turn.
-use borrow.Author.Rules.{rules}
 use Prim.Native.Nat.{◌≤◌, ◌-◌}
 use Rattle.cases.proofs.damage.opened.Given as goal
 
