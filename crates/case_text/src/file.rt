@@ -1,5 +1,5 @@
 // A data file.
-ghost use Rattle.std.specs.Prelude.{◌≤◌, length, IfOk};
+ghost use Rattle.std.specs.Prelude.{◌≡◌, ◌≤◌, length, IfOk};
 
 use std::fs::File;
 use std::io;
@@ -9,9 +9,10 @@ use std::rt::Files;
 // The most bytes of a data file that a program here reads.
 pub const MOST: usize = 65536;
 
-// Reads until a buffer is full or the input ends, and gives how many bytes were read.
+// Reads until a buffer is full or the input ends, and gives how many bytes were read. After an error the buffer may hold some of them.
 pub fn read_full(input: &mut impl Read, buffer: &mut [u8]) -> io::Result<usize>
-    ensures { IfOk result (λ n. n ≤ length buffer.new) }
+    ensures count { IfOk result (λ n. n ≤ length buffer.new) }
+    ensures buffer { length buffer.new ≡ length buffer.old }
 {
     let mut done: usize = 0;
     while done < buffer.len() {
@@ -26,7 +27,8 @@ pub fn read_full(input: &mut impl Read, buffer: &mut [u8]) -> io::Result<usize>
 
 // Reads a file into a buffer, and gives how many bytes it has. Where there is no such file it is an error.
 pub fn read(rt: &impl Files, path: &str, buffer: &mut [u8]) -> io::Result<usize>
-    ensures { IfOk result (λ n. n ≤ length buffer.new) }
+    ensures count { IfOk result (λ n. n ≤ length buffer.new) }
+    ensures buffer { length buffer.new ≡ length buffer.old }
 {
     let mut file = File::open(rt, path)?;
     read_full(&mut file, buffer)
