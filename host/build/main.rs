@@ -63,15 +63,20 @@ fn built_archives() -> (PathBuf, String) {
     let host = PathBuf::from(env::var_os("CARGO_MANIFEST_DIR").expect("cargo names the package's folder"));
     let out = PathBuf::from(env::var_os("OUT_DIR").expect("cargo names a folder for the build"));
     let top = host.parent().expect("the package lies in the repository");
-    let names = crates::needed(top, &[PRODUCT, BARE_CIPHER]).unwrap_or_else(|why| stop(&why));
+    let libraries = [PRODUCT, BARE_CIPHER].map(crates::static_library);
+    let names = crates::needed(top, &libraries).unwrap_or_else(|why| stop(&why));
     println!("cargo:rerun-if-changed={}", top.join(crates::LIST).display());
     for name in &names {
-        println!("cargo:rerun-if-changed={}", crates::folder(top, name).display());
+        let folder = crates::folder(top, name);
+        let sources = crates::sources(&folder).unwrap_or_else(|error| stop(&format!("{}: {error}.", folder.display())));
+        for path in sources {
+            println!("cargo:rerun-if-changed={}", path.display());
+        }
     }
     let root = place::building_folder(top, &out, &names)
         .unwrap_or_else(|error| stop(&format!("the sources cannot be copied to {}: {error}.", out.display())));
     let toolchain = identity::toolchain();
-    prove::archives(&root, &[PRODUCT, BARE_CIPHER], &names, &toolchain).unwrap_or_else(|why| stop(&why));
+    prove::archives(top, &root, &[PRODUCT, BARE_CIPHER], &names, &toolchain).unwrap_or_else(|why| stop(&why));
     (prove::archive_folder(&root), identity::built(top, &toolchain))
 }
 

@@ -7,7 +7,7 @@ use std::process;
 
 use crate::crates;
 
-/// The repository's top folder, or a copy of the sources in cargo's own folder. `rt` writes to `target` below it.
+/// The repository's top folder, or a copy of the sources in cargo's own folder. Archives are written to `target` below it.
 pub fn building_folder(top: &Path, out: &Path, names: &[String]) -> io::Result<PathBuf> {
     if can_be_written(&top.join("target")) {
         return Ok(top.to_path_buf());
@@ -26,28 +26,32 @@ pub fn can_be_written(folder: &Path) -> bool {
     written
 }
 
-/// Copies the list and the crates. What an earlier build has proved beside them stays.
+/// Copies these crates and their lines of the list. What `rt` has kept of them in the copy stays.
 fn copy_sources(top: &Path, copy: &Path, names: &[String]) -> io::Result<()> {
-    let old = copy.join("crates");
-    if old.exists() {
-        fs::remove_dir_all(&old)?;
+    for name in names {
+        let (from, to) = (crates::folder(top, name), crates::folder(copy, name));
+        fs::create_dir_all(&to)?;
+        crates::sources(&to)?.iter().try_for_each(|old| remove(old))?;
+        crates::sources(&from)?.iter().try_for_each(|source| copy_into(source, &to))?;
     }
-    fs::create_dir_all(&old)?;
-    fs::write(copy.join(crates::LIST), fs::read(top.join(crates::LIST))?)?;
-    names.iter().try_for_each(|name| copy_folder(&crates::folder(top, name), &crates::folder(copy, name)))
+    let list = fs::read_to_string(top.join(crates::LIST))?;
+    fs::write(copy.join(crates::LIST), crates::lines_of(&list, names))
+}
+
+fn remove(path: &Path) -> io::Result<()> {
+    if path.is_dir() {
+        fs::remove_dir_all(path)
+    } else {
+        fs::remove_file(path)
+    }
 }
 
 /// Copies contents and not modes: the copies can be written and removed.
-fn copy_folder(from: &Path, to: &Path) -> io::Result<()> {
-    fs::create_dir(to)?;
-    for entry in fs::read_dir(from)? {
-        let entry = entry?;
-        let (from, to) = (entry.path(), to.join(entry.file_name()));
-        if entry.file_type()?.is_dir() {
-            copy_folder(&from, &to)?;
-        } else {
-            fs::write(to, fs::read(from)?)?;
-        }
+fn copy_into(from: &Path, folder: &Path) -> io::Result<()> {
+    let to = folder.join(from.file_name().unwrap_or_default());
+    if !from.is_dir() {
+        return fs::write(to, fs::read(from)?);
     }
-    Ok(())
+    fs::create_dir(&to)?;
+    fs::read_dir(from)?.try_for_each(|entry| copy_into(&entry?.path(), &to))
 }

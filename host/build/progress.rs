@@ -11,6 +11,8 @@ pub struct Progress {
     terminal: Option<File>,
     waiting: Vec<String>,
     crates: usize,
+    /// The crate that `rt` has spoken of last.
+    named: String,
     start: Instant,
     /// When the last crate was proved.
     last: Instant,
@@ -21,7 +23,7 @@ impl Progress {
     pub fn new(names: &[String]) -> Self {
         let terminal = OpenOptions::new().write(true).open("/dev/tty").ok();
         let now = Instant::now();
-        Self { terminal, waiting: names.to_vec(), crates: names.len(), start: now, last: now }
+        Self { terminal, waiting: names.to_vec(), crates: names.len(), named: String::new(), start: now, last: now }
     }
 
     pub fn begin(&mut self) {
@@ -30,25 +32,24 @@ impl Progress {
         self.show(&format!("{crates} crates to prove, which takes some minutes the first time{next}"));
     }
 
-    /// Takes a line of `rt`, such as `rt: blocks proved (12 s)`. Other lines are passed over.
+    /// Takes a line of `rt`. At a crate's end it names the crate, as in `crate blocks: modules loaded=3 checked=5`, and its last line begins with
+    /// `logic=proved`. Other lines are passed over.
     pub fn line(&mut self, line: &str) {
-        let told = line.strip_prefix("rt: ").and_then(|line| line.split_once(" proved ("));
-        if let Some((name, time)) = told {
-            self.proved(name, time.trim_end_matches(')'));
+        if let Some((name, _)) = line.strip_prefix("crate ").and_then(|line| line.split_once(':')) {
+            self.named = name.to_string();
+        } else if line.starts_with("logic=proved ") {
+            self.proved();
         }
     }
 
-    /// The crate at the top of an archive, of which `rt` tells no time.
-    pub fn archive(&mut self, name: &str) {
-        self.proved(name, &format!("{} s", self.last.elapsed().as_secs()));
-    }
-
-    fn proved(&mut self, name: &str, time: &str) {
+    /// The crate that was named last. Those before it are proved as well: of what it has kept from an earlier run `rt` says nothing.
+    fn proved(&mut self) {
+        let seconds = self.last.elapsed().as_secs();
         self.last = Instant::now();
-        let Some(place) = self.waiting.iter().position(|waiting| waiting == name) else { return };
-        self.waiting.remove(place);
+        let Some(place) = self.waiting.iter().position(|waiting| *waiting == self.named) else { return };
+        self.waiting.drain(..=place);
         let (done, crates, next) = (self.crates - self.waiting.len(), self.crates, self.next());
-        self.show(&format!("{done} of {crates} proved: {name} ({time}){next}"));
+        self.show(&format!("{done} of {crates} proved: {} ({seconds} s){next}", self.named));
     }
 
     /// What is proved now, or how long all took.

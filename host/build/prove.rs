@@ -7,13 +7,17 @@ use std::process::{Command, ExitStatus, Stdio};
 use crate::progress::Progress;
 use crate::stamp;
 
-/// Where `rt` writes archives.
+/// The script of the repository that has `rt` prove and build static libraries.
+const SCRIPT: &str = "tools/staticlib";
+
+/// Where it writes archives.
 pub fn archive_folder(root: &Path) -> PathBuf {
     root.join("target").join("staticlib")
 }
 
-/// Builds the archives unless they are there and were built from the same sources by the same toolchain.
-pub fn archives(root: &Path, archives: &[&str], names: &[String], toolchain: &str) -> Result<(), String> {
+/// Builds the archives unless they are there and were built from the same sources by the same toolchain. The sources lie in `root`, which is the
+/// repository's top folder or a copy.
+pub fn archives(top: &Path, root: &Path, archives: &[&str], names: &[String], toolchain: &str) -> Result<(), String> {
     let folder = archive_folder(root);
     let sources = stamp::of_sources(root, names, toolchain);
     if archives.iter().all(|name| stamp::agrees(&folder, name, &sources)) {
@@ -22,8 +26,7 @@ pub fn archives(root: &Path, archives: &[&str], names: &[String], toolchain: &st
     let mut progress = Progress::new(names);
     progress.begin();
     for name in archives {
-        staticlib(root, name, &mut progress)?;
-        progress.archive(name);
+        staticlib(top, root, name, &mut progress)?;
     }
     // Sources that were changed meanwhile are built again next time.
     if stamp::of_sources(root, names, toolchain) == sources {
@@ -32,22 +35,27 @@ pub fn archives(root: &Path, archives: &[&str], names: &[String], toolchain: &st
     Ok(())
 }
 
-fn staticlib(root: &Path, name: &str, progress: &mut Progress) -> Result<(), String> {
+fn staticlib(top: &Path, root: &Path, name: &str, progress: &mut Progress) -> Result<(), String> {
     let other_way = "Or set BALZENOH_LIB_DIR to a folder that holds libbalzenoh.a.";
-    match run_rt(root, name, progress) {
+    let script = top.join(SCRIPT);
+    match run(&script, root, name, progress) {
         Ok(status) if status.success() => Ok(()),
-        Ok(status) => {
-            let root = root.display();
-            Err(format!("`rt staticlib {name}` failed in {root} ({status}). Run it there by hand to see why. {other_way}"))
+        // What the shell answers where there is no such program.
+        Ok(status) if status.code() == Some(127) => {
+            Err(format!("`rt`, the Rattle toolchain, did not start. Put it on the path. {other_way}"))
         }
-        Err(error) => Err(format!("`rt`, the Rattle toolchain, did not start ({error}). Put it on the path. {other_way}")),
+        Ok(status) => {
+            let (script, root) = (script.display(), root.display());
+            Err(format!("`{script} {name}` failed in {root} ({status}). Run it there by hand to see why. {other_way}"))
+        }
+        Err(error) => Err(format!("`{}` did not start ({error}). {other_way}", script.display())),
     }
 }
 
 /// What `rt` says is handed on to cargo, which shows it where the build fails.
-fn run_rt(root: &Path, name: &str, progress: &mut Progress) -> io::Result<ExitStatus> {
-    let mut child = Command::new("rt").args(["staticlib", name]).current_dir(root).stderr(Stdio::piped()).spawn()?;
-    if let Some(said) = child.stderr.take() {
+fn run(script: &Path, root: &Path, name: &str, progress: &mut Progress) -> io::Result<ExitStatus> {
+    let mut child = Command::new(script).arg(name).current_dir(root).stdout(Stdio::piped()).spawn()?;
+    if let Some(said) = child.stdout.take() {
         for line in BufReader::new(said).split(b'\n').map_while(Result::ok) {
             let line = String::from_utf8_lossy(&line).into_owned();
             eprintln!("{line}");

@@ -14,7 +14,7 @@ pub fn of_sources(root: &Path, names: &[String], toolchain: &str) -> Option<u64>
     toolchain.hash(&mut hasher);
     fs::read(root.join(crates::LIST)).ok()?.hash(&mut hasher);
     for name in names {
-        hash_folder(&crates::folder(root, name), &mut hasher).ok()?;
+        hash_all(&crates::sources(&crates::folder(root, name)).ok()?, &mut hasher).ok()?;
     }
     Some(hasher.finish())
 }
@@ -46,13 +46,17 @@ fn text(folder: &Path, name: &str, sources: &Option<u64>) -> Option<String> {
 fn hash_folder(folder: &Path, hasher: &mut DefaultHasher) -> io::Result<()> {
     let mut paths = fs::read_dir(folder)?.map(|entry| Ok(entry?.path())).collect::<io::Result<Vec<_>>>()?;
     paths.sort();
+    hash_all(&paths, hasher)
+}
+
+fn hash_all(paths: &[PathBuf], hasher: &mut DefaultHasher) -> io::Result<()> {
     paths.len().hash(hasher);
     for path in paths {
         path.file_name().hash(hasher);
         if path.is_dir() {
-            hash_folder(&path, hasher)?;
+            hash_folder(path, hasher)?;
         } else {
-            fs::read(&path)?.hash(hasher);
+            fs::read(path)?.hash(hasher);
         }
     }
     Ok(())

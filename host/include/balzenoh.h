@@ -94,8 +94,8 @@
  *  - It needs memcpy and memset, and nothing else.
  *  - Each function is a section of its own, so that a linker with --gc-sections leaves out the calls that
  *    are not made.
- *  - `rt staticlib balzenoh` in the repository's top folder makes it, with rt, the Rattle toolchain, on
- *    the path; then link it: cc -Ihost/include program.c target/staticlib/libbalzenoh.a
+ *  - `tools/staticlib balzenoh` in the repository's top folder makes it, with rt, the Rattle toolchain,
+ *    on the path; then link it: cc -Ihost/include program.c target/staticlib/libbalzenoh.a
  *  - Its size, and the stack that each call was seen to use, from its caller's frame down, as
  *    host/stack/run printed them, in bytes:
  *

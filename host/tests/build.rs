@@ -52,12 +52,12 @@ fn the_proof_is_followed_on_the_terminal() {
     let cargo = format!("{} {}", env!("CARGO"), CHECK.join(" "));
     let shown = told(&checkout.run("script", &["-qec", &cargo, "/dev/null"]));
     let expected = [
-        "5 crates to prove, which takes some minutes the first time; now blocks",
-        "1 of 5 proved: blocks (7 s); now aes",
-        "2 of 5 proved: aes (7 s); now calls",
-        "3 of 5 proved: calls (7 s); now balzenoh",
-        "4 of 5 proved: balzenoh (0 s); now aes_blocks",
-        "5 of 5 proved: aes_blocks (",
+        "7 crates to prove, which takes some minutes the first time; now blocks",
+        "1 of 7 proved: blocks (1 s); now aes",
+        "2 of 7 proved: aes (0 s); now calls",
+        "3 of 7 proved: calls (0 s); now balzenoh",
+        "5 of 7 proved: balzenoh_c (0 s); now aes_blocks",
+        "7 of 7 proved: aes_blocks_c (",
     ];
     for line in expected {
         assert!(shown.contains(&format!("balzenoh: {line}")), "{line} is missing: {shown}");

@@ -158,6 +158,11 @@ fn an_earlier_library_is_built_in_a_copy_of_its_crates() {
     for wrong in [&[][..], &["no-such-commit"], &[""], &["HEAD", "HEAD"]] {
         assert_eq!(checkout.run("./earlier", wrong).status.code(), Some(64), "{wrong:?}");
     }
+    // A commit of an older toolchain.
+    git(&["rm", "--quiet", "--cached", "-r", "crates/balzenoh_c"]);
+    git(&["commit", "--quiet", "--message", "no static library"]);
+    let output = checkout.run("./earlier", &["HEAD"]);
+    assert_eq!((output.status.code(), output.stdout.is_empty()), (Some(69), true));
 }
 
 /// A face with two engines, the first of them chosen.

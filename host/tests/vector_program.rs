@@ -38,12 +38,12 @@ fn program() -> Option<&'static Path> {
     PROGRAM.get_or_init(built).as_deref()
 }
 
-/// Has `rt` build the program in the repository's top folder.
+/// Has `rt` prove and build the program, which it runs once with no input.
 fn built() -> Option<PathBuf> {
-    let top = Path::new(env!("CARGO_MANIFEST_DIR")).parent().expect("the package lies in the repository");
-    let output = Command::new("rt").args(["check", "vector"]).current_dir(top).output().ok()?;
-    assert!(output.status.success(), "`rt check vector` failed: {}", String::from_utf8_lossy(&output.stderr));
-    Some(top.join("target").join("bin").join("vector"))
+    let folder = Path::new(env!("CARGO_MANIFEST_DIR")).join("../crates/vector");
+    let output = Command::new("rt").arg("run").current_dir(&folder).stdin(Stdio::null()).output().ok()?;
+    assert!(output.status.success(), "`rt run` failed in crates/vector: {}", String::from_utf8_lossy(&output.stderr));
+    Some(folder.join("out").join("vector"))
 }
 
 /// Holds what the program prints for an input to what it should print.

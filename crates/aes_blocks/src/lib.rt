@@ -103,8 +103,7 @@ fn call(direction: Direction, key: &[u8], text: &[u8], out: &mut [u8]) -> u8
 }
 
 // ENCRYPT each block.
-#[unsafe(no_mangle)]
-pub extern "C" fn aes_blocks_encrypt(key: &[u8], text: &[u8], out: &mut [u8]) -> u8
+pub fn aes_blocks_encrypt(key: &[u8], text: &[u8], out: &mut [u8]) -> u8
     ensures answer { result ≡ refusal_of key.now text.now (length out.old) }
     ensures output { out.new ≡ output encrypt key.now text.now (length out.old) }
 {
@@ -112,8 +111,7 @@ pub extern "C" fn aes_blocks_encrypt(key: &[u8], text: &[u8], out: &mut [u8]) ->
 }
 
 // DECRYPT each block.
-#[unsafe(no_mangle)]
-pub extern "C" fn aes_blocks_decrypt(key: &[u8], text: &[u8], out: &mut [u8]) -> u8
+pub fn aes_blocks_decrypt(key: &[u8], text: &[u8], out: &mut [u8]) -> u8
     ensures answer { result ≡ refusal_of key.now text.now (length out.old) }
     ensures output { out.new ≡ output decrypt key.now text.now (length out.old) }
 {

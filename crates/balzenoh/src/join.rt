@@ -21,8 +21,7 @@ fn join_two(left: &[u8], right: &[u8]) -> RecordAnswer
 }
 
 // JOIN two records.
-#[unsafe(no_mangle)]
-pub extern "C" fn balzenoh_join(left: &[u8], right: &[u8], run: &mut [u8]) -> u8
+pub fn balzenoh_join(left: &[u8], right: &[u8], run: &mut [u8]) -> u8
     ensures { Returned (lent_record (join_bytes left.now right.now) (length run.old)) result run.new }
 {
     let answer = join_two(left, right);
@@ -64,8 +63,7 @@ fn join_bytes(records: &[u8]) -> RecordAnswer
 }
 
 // JOIN A LIST.
-#[unsafe(no_mangle)]
-pub extern "C" fn balzenoh_join_list(records: &[u8], run: &mut [u8]) -> u8
+pub fn balzenoh_join_list(records: &[u8], run: &mut [u8]) -> u8
     ensures { Returned (lent_record (join_list_bytes records.now) (length run.old)) result run.new }
 {
     let answer = join_bytes(records);

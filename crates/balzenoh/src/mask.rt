@@ -4,8 +4,7 @@ ghost use Rattle.mode.specs.Calls.{jump_mask};
 ghost use Rattle.balzenoh.specs.Exports.{Returned};
 
 // JUMP a mask, forward or, by a negative distance, back.
-#[unsafe(no_mangle)]
-pub extern "C" fn balzenoh_jump(mask: &[u8], distance: i32, out: &mut [u8]) -> u8
+pub fn balzenoh_jump(mask: &[u8], distance: i32, out: &mut [u8]) -> u8
     ensures { Returned (jump_mask mask.now distance (length out.old)) result out.new }
 {
     let answer = tags::jump::jump(mask, distance, out);

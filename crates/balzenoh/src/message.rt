@@ -24,8 +24,7 @@ fn seal_with(
 }
 
 // By the cipher.
-#[unsafe(no_mangle)]
-pub extern "C" fn balzenoh_seal(
+pub fn balzenoh_seal(
     key: &[u8],
     iv: &[u8],
     message: &[u8],
@@ -38,8 +37,7 @@ pub extern "C" fn balzenoh_seal(
 }
 
 // By SHA-1.
-#[unsafe(no_mangle)]
-pub extern "C" fn balzenoh_seal_sha1(
+pub fn balzenoh_seal_sha1(
     key: &[u8],
     iv: &[u8],
     message: &[u8],
@@ -61,21 +59,14 @@ fn open_with(finish: Finish, key: &[u8], sealed: &[u8], out: &mut [u8], length: 
 }
 
 // By the cipher.
-#[unsafe(no_mangle)]
-pub extern "C" fn balzenoh_open(key: &[u8], sealed: &[u8], out: &mut [u8], length: &mut usize) -> u8
+pub fn balzenoh_open(key: &[u8], sealed: &[u8], out: &mut [u8], length: &mut usize) -> u8
     ensures { Reported (open_sealed by_cipher aes key.now sealed.now (length_of out.old)) result length.new out.new }
 {
     open_with(Finish::Cipher, key, sealed, out, length)
 }
 
 // By SHA-1.
-#[unsafe(no_mangle)]
-pub extern "C" fn balzenoh_open_sha1(
-    key: &[u8],
-    sealed: &[u8],
-    out: &mut [u8],
-    length: &mut usize,
-) -> u8
+pub fn balzenoh_open_sha1(key: &[u8], sealed: &[u8], out: &mut [u8], length: &mut usize) -> u8
     ensures { Reported (open_sealed by_sha1 aes key.now sealed.now (length_of out.old)) result length.new out.new }
 {
     open_with(Finish::Sha1, key, sealed, out, length)

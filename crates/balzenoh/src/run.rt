@@ -19,8 +19,7 @@ fn keep(length: usize, room: usize, out: &mut [u8]) -> usize
 }
 
 // SEAL A RUN. It is the last one unless `last` is 0.
-#[unsafe(no_mangle)]
-pub extern "C" fn balzenoh_seal_run(
+pub fn balzenoh_seal_run(
     key: &[u8],
     iv: &[u8],
     first: u32,
@@ -46,14 +45,7 @@ pub extern "C" fn balzenoh_seal_run(
 }
 
 // CHECK A RUN of ciphertext.
-#[unsafe(no_mangle)]
-pub extern "C" fn balzenoh_check_run(
-    key: &[u8],
-    iv: &[u8],
-    first: u32,
-    bytes: &[u8],
-    run: &mut [u8],
-) -> u8
+pub fn balzenoh_check_run(key: &[u8], iv: &[u8], first: u32, bytes: &[u8], run: &mut [u8]) -> u8
     ensures { Returned (lent_record (check_run_bytes key.now iv.now first bytes.now) (length_of run.old)) result run.new }
 {
     let answer = calls::run::check_run(key, iv, first, bytes);

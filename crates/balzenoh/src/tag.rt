@@ -43,16 +43,14 @@ fn close_with(finish: Finish, key: &[u8], iv: &[u8], run: &[u8], tag: &mut [u8])
 }
 
 // By the cipher.
-#[unsafe(no_mangle)]
-pub extern "C" fn balzenoh_close(key: &[u8], iv: &[u8], run: &[u8], tag: &mut [u8]) -> u8
+pub fn balzenoh_close(key: &[u8], iv: &[u8], run: &[u8], tag: &mut [u8]) -> u8
     ensures { Returned (lent_tag by_cipher (close_bytes by_cipher key.now iv.now run.now) (length tag.old)) result tag.new }
 {
     close_with(Finish::Cipher, key, iv, run, tag)
 }
 
 // By SHA-1.
-#[unsafe(no_mangle)]
-pub extern "C" fn balzenoh_close_sha1(key: &[u8], iv: &[u8], run: &[u8], tag: &mut [u8]) -> u8
+pub fn balzenoh_close_sha1(key: &[u8], iv: &[u8], run: &[u8], tag: &mut [u8]) -> u8
     ensures { Returned (lent_tag by_sha1 (close_bytes by_sha1 key.now iv.now run.now) (length tag.old)) result tag.new }
 {
     close_with(Finish::Sha1, key, iv, run, tag)
@@ -70,16 +68,14 @@ fn test_with(finish: Finish, key: &[u8], iv: &[u8], run: &[u8], tag: &[u8]) -> u
 }
 
 // By the cipher.
-#[unsafe(no_mangle)]
-pub extern "C" fn balzenoh_test(key: &[u8], iv: &[u8], run: &[u8], tag: &[u8]) -> u8
+pub fn balzenoh_test(key: &[u8], iv: &[u8], run: &[u8], tag: &[u8]) -> u8
     ensures { result ≡ test_bytes by_cipher key.now iv.now run.now tag.now }
 {
     test_with(Finish::Cipher, key, iv, run, tag)
 }
 
 // By SHA-1.
-#[unsafe(no_mangle)]
-pub extern "C" fn balzenoh_test_sha1(key: &[u8], iv: &[u8], run: &[u8], tag: &[u8]) -> u8
+pub fn balzenoh_test_sha1(key: &[u8], iv: &[u8], run: &[u8], tag: &[u8]) -> u8
     ensures { result ≡ test_bytes by_sha1 key.now iv.now run.now tag.now }
 {
     test_with(Finish::Sha1, key, iv, run, tag)

@@ -1,0 +1,12 @@
+// SHA-1 of a text.
+ghost use Rattle.std.specs.Prelude.{length};
+ghost use Rattle.mode.specs.Calls.{sha1_text};
+ghost use Rattle.balzenoh.specs.Exports.{Returned};
+
+// SHA-1 of a text: the digest, 20 bytes.
+#[unsafe(no_mangle)]
+pub extern "C" fn balzenoh_sha1(text: &[u8], out: &mut [u8]) -> u8
+    ensures { Returned (sha1_text text.now (length out.old)) result out.new }
+{
+    balzenoh::hash::balzenoh_sha1(text, out)
+}

@@ -1,0 +1,12 @@
+// Jump a mask.
+ghost use Rattle.std.specs.Prelude.{length};
+ghost use Rattle.mode.specs.Calls.{jump_mask};
+ghost use Rattle.balzenoh.specs.Exports.{Returned};
+
+// JUMP a mask, forward or, by a negative distance, back.
+#[unsafe(no_mangle)]
+pub extern "C" fn balzenoh_jump(mask: &[u8], distance: i32, out: &mut [u8]) -> u8
+    ensures { Returned (jump_mask mask.now distance (length out.old)) result out.new }
+{
+    balzenoh::mask::balzenoh_jump(mask, distance, out)
+}
