@@ -25,7 +25,17 @@ FORMER = {"getD": "get_or", "bitXor": "bit_xor"}
 JOINED = {"le", "lt", "eq", "zero", "suc", "append", "nil", "cons", "add", "mul", "sub", "xor", "mod", "div", "length", "take", "drop", "concat"}
 KEPT = {"in-words", "in-bytes"}
 # fields that port.py has given the name that a definition takes here
-BACK = {"in_bytes": "in-bytes"}
+BACK = {"in_bytes": "in-bytes", "in_order": "in-order"}
+# definitions of lemma files that share a name with a lemma elsewhere, and the one lemma that stands in the same file
+PLAIN = {
+    "tagSame": "tag_same",
+    "byLength": "by_length",
+    "onePiece": "one_piece",
+    "noneBefore": "none_before",
+    "lastBlock": "last_block",
+    "frontLength": "front_length",
+    "front_length": "front_length_lem",
+}
 
 
 def texts(*ends):
@@ -138,7 +148,7 @@ def in_clauses(text, turn):
 
 
 def main():
-    table = respelled(*defined(), library()) | {w: snake(w) for w in aliases()} | BACK
+    table = respelled(*defined(), library()) | {w: snake(w) for w in aliases()} | BACK | PLAIN
     if "--list" in sys.argv:
         for name, new in sorted(table.items()):
             print(name, new, "  !" if new.endswith("_lem") else "")

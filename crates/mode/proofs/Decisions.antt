@@ -139,7 +139,7 @@ demand1 c =
 decided : {A : Type 0} (order : List ℕ) (rows : List (ℕ × Bool)) (a : A) → in_order order rows ≡ true → Decided order rows (decide rows a) a
 decided {A} order rows a o =
     record {
-      in_order = o;
+      in-order = o;
       refuses = first_row_lem rows a;
       gives = λ x. (given_rows rows a x, λ h. passed_rows rows a h.0 ∙ ap (λ (y : A). given y) h.1);
     }

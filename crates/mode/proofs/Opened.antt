@@ -49,15 +49,15 @@ module _ (t : Finish) (c : Cipher) (key sealed : List ℕ) (room : ℕ) where
   abbrev message₀ : List ℕ
   message₀ = message_of t c key sealed
 
-  abbrev tag_same_lem : Bool
-  tag_same_lem = same (unbroken_tag t c ciphertext key (iv_part sealed) (blocks_of (cipher_part t sealed))) (tag_part t sealed)
+  abbrev tag_same : Bool
+  tag_same = same (unbroken_tag t c ciphertext key (iv_part sealed) (blocks_of (cipher_part t sealed))) (tag_part t sealed)
 
   abbrev unpadded_text : Bool
   unpadded_text = not_padded (unpadded (plaintext_of t c key sealed))
 
   -- the rows above 5
   abbrev rows_above : List (ℕ × Bool)
-  rows_above = (1, not_key key) ∷ (3, not_sealed t sealed) ∷ (10, zero_mask c key (iv_part sealed)) ∷ (6, not tag_same_lem) ∷ (7, unpadded_text) ∷ []
+  rows_above = (1, not_key key) ∷ (3, not_sealed t sealed) ∷ (10, zero_mask c key (iv_part sealed)) ∷ (6, not tag_same) ∷ (7, unpadded_text) ∷ []
 
   answer_is : (open_sealed t c key sealed room).answer ≡ decide (open_rows t c key sealed room) message₀
   unfolding open_sealed
@@ -69,7 +69,7 @@ module _ (t : Finish) (c : Cipher) (key sealed : List ℕ) (room : ℕ) where
         key_right = h.0;
         length_right = h.1.0;
         masked = h.1.1.0;
-        tag_right = not-false tag_same_lem h.1.1.1.0;
+        tag_right = not-false tag_same h.1.1.1.0;
         message = is_padded (unpadded (plaintext_of t c key sealed)) h.1.1.1.1.0;
       }
 
@@ -197,12 +197,12 @@ right_or_refused right unpadded m a e = (λ r. to right unpadded r e, from)
 module _ (t : Finish) (c : Cipher) (key sealed : List ℕ) (room : ℕ) (nz : NonzeroMask c key (iv_part sealed)) (hk : KeyLength key) (hs : not_sealed t sealed ≡ false) where
   -- rows 1, 3 and 10 do not hold
   by_contents_lem : (open_sealed t c key sealed room).answer
-      ≡ contents (tag_same_lem t c key sealed room) (unpadded_text t c key sealed room) (too_short room (length (message_of t c key sealed))) (message_of t c key sealed)
+      ≡ contents (tag_same t c key sealed room) (unpadded_text t c key sealed room) (too_short room (length (message_of t c key sealed))) (message_of t c key sealed)
   unfolding open_rows_within decide
   by_contents_lem = answer_is t c key sealed room ∙ rw (is_key key hk, hs, nz)
 
   -- the check is the comparison of row 6
-  checked : UnbrokenCheck t c key sealed ↔ (tag_same_lem t c key sealed room ≡ true)
+  checked : UnbrokenCheck t c key sealed ↔ (tag_same t c key sealed room ≡ true)
   unfolding UnbrokenCheck
   checked =
       let tag = unbroken_tag t c ciphertext key (iv_part sealed) (blocks_of (cipher_part t sealed)) in
@@ -218,10 +218,10 @@ demand2d t c laws =
           let w = message_within c laws key hk t sealed hs in
           let fits = le-ltb room (length (message_of t c key sealed)) (omega (arith, w, h)) in
           chain (checked t c key sealed room nz hk hs)
-          (right_or_refused (tag_same_lem t c key sealed room) (unpadded_text t c key sealed room) (message_of t c key sealed) _
-          (by_contents_lem t c key sealed room nz hk hs ∙ ap (λ (b : Bool). contents (tag_same_lem t c key sealed room) (unpadded_text t c key sealed room) b (message_of t c key sealed)) fits));
+          (right_or_refused (tag_same t c key sealed room) (unpadded_text t c key sealed room) (message_of t c key sealed) _
+          (by_contents_lem t c key sealed room nz hk hs ∙ ap (λ (b : Bool). contents (tag_same t c key sealed room) (unpadded_text t c key sealed room) b (message_of t c key sealed)) fits));
       lent_any = λ key sealed room nz hk hs.
           chain (checked t c key sealed room nz hk hs)
-          (right_or_six (tag_same_lem t c key sealed room) (unpadded_text t c key sealed room) (too_short room (length (message_of t c key sealed))) (message_of t c key sealed) _
+          (right_or_six (tag_same t c key sealed room) (unpadded_text t c key sealed room) (too_short room (length (message_of t c key sealed))) (message_of t c key sealed) _
           (by_contents_lem t c key sealed room nz hk hs));
     }

@@ -517,16 +517,16 @@ unfolding in_order rows_of
 document_order_lem = (refl, refl)
 
 -- no number of the list may stand before n in this order, nor n twice
-none_before_lem : List ℕ → ℕ → List ℕ → Bool
-none_before_lem order n [] = true
-none_before_lem order n (k ∷ ks) = cond (in_order order (rows_of (k ∷ n ∷ []))) false (none_before_lem order n ks)
+none_before : List ℕ → ℕ → List ℕ → Bool
+none_before order n [] = true
+none_before order n (k ∷ ks) = cond (in_order order (rows_of (k ∷ n ∷ []))) false (none_before order n ks)
 
 pub no_pair_turned : List ℕ → List ℕ → Bool
 no_pair_turned order [] = true
-no_pair_turned order (n ∷ ns) = cond (none_before_lem order n (n ∷ ns)) (no_pair_turned order ns) false
+no_pair_turned order (n ∷ ns) = cond (none_before order n (n ∷ ns)) (no_pair_turned order ns) false
 
 pub no_other_order : (no_pair_turned table_order document_order ≡ true) × (no_pair_turned open_order ticket_order ≡ true)
-unfolding in_order rows_of none_before_lem no_pair_turned
+unfolding in_order rows_of none_before no_pair_turned
 no_other_order = (refl, refl)
 
 -- a number that the table does not have stands nowhere

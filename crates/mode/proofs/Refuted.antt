@@ -18,7 +18,7 @@ use Rattle.mode.specs.Calls.{Kind, middle, last, blocks_of_run, Outcome, answer_
 use Rattle.mode.specs.Parallel.{Segment, recorded, Call, run_at, join_pair, join_many, Allowed, record_by, start, after_all}
 use Rattle.mode.specs.Demands.{start_mask_by, Gives, Refuses, Expected, Whole, Agrees, Demand3}
 use Rattle.mode.proofs.Decisions.{outcome_answer}
-use Rattle.mode.proofs.Toy.{toy, computed, a_key, an_iv, one_piece_lem, one_piece_formed, zero_key, zero_key_formed, replaced, replaced_formed, long_replaced, long_replaced_formed, one_text, one_checked, one_checked_formed, two_checked, two_checked_formed, three_pieces, three_pieces_formed}
+use Rattle.mode.proofs.Toy.{toy, computed, a_key, an_iv, one_piece, one_piece_formed, zero_key, zero_key_formed, replaced, replaced_formed, long_replaced, long_replaced_formed, one_text, one_checked, one_checked_formed, two_checked, two_checked_formed, three_pieces, three_pieces_formed}
 
 -- two words alike
 abbrev each : ℕ → Words
@@ -37,9 +37,9 @@ one_tag = replicate 16 7
 
 module _ (m : Calls) (d : Demand3 toy m) where
   -- (a run is allowed, whatever the calls answer)
-  one : (t : Finish) (room : ℕ) → Agrees toy m (one_piece_lem t) (run_at 0 room ∷ []) (after_all m (one_piece_lem t) (start (one_piece_lem t)) (run_at 0 room ∷ []))
+  one : (t : Finish) (room : ℕ) → Agrees toy m (one_piece t) (run_at 0 room ∷ []) (after_all m (one_piece t) (start (one_piece t)) (run_at 0 room ∷ []))
   unfolding computed
-  one t room = d (one_piece_lem t) refl (one_piece_formed t) (run_at 0 room ∷ []) ((lit< tt, refl), tt)
+  one t room = d (one_piece t) refl (one_piece_formed t) (run_at 0 room ∷ []) ((lit< tt, refl), tt)
 
   -- with room, sealing gives this record and this ciphertext
   run_forced : Gives (m.seals_run a_key an_iv 0 last [] 16) one_record one_text 16
@@ -57,11 +57,11 @@ module _ (m : Calls) (d : Demand3 toy m) where
   short_unreported : (m.seals_run a_key an_iv 0 last [] 15).reported ≡ 0
   short_unreported = short_forced.reports
 
-  one_left : (t : Finish) → after_all m (one_piece_lem t) (start (one_piece_lem t)) (run_at 0 16 ∷ []) ≡ recorded (record { first = 0; kind = last; bytes = [] } ∷ []) one_record one_text ∷ []
+  one_left : (t : Finish) → after_all m (one_piece t) (start (one_piece t)) (run_at 0 16 ∷ []) ≡ recorded (record { first = 0; kind = last; bytes = [] } ∷ []) one_record one_text ∷ []
   unfolding computed
   one_left t = rw (run_forced.answers, run_forced.reports, run_forced.writes)
 
-  pub one-whole : (t : Finish) → Whole toy m (one_piece_lem t) one_record one_text
+  pub one-whole : (t : Finish) → Whole toy m (one_piece t) one_record one_text
   one-whole t = (one t 16).single _ one_record one_text (one_left t)
 
   -- closing it gives this tag, and no other tag passes
@@ -222,8 +222,8 @@ message_copied_refuted_whole d =
     omega arith
 
 -- a sealer that jumps a run by its length, not by its first block
-pub by_length_lem : List ℕ → List ℕ → ℕ → Kind → List ℕ → ℕ → Outcome RunRecord
-by_length_lem key iv first kind bytes room =
+pub by_length : List ℕ → List ℕ → ℕ → Kind → List ℕ → ℕ → Outcome RunRecord
+by_length key iv first kind bytes room =
     let blocks = blocks_of_run kind bytes in
     outcome_by
     (decide ((5, ltb room (16 * length blocks)) ∷ [])
@@ -231,10 +231,10 @@ by_length_lem key iv first kind bytes room =
     (pass_from toy plaintext key iv (length blocks) blocks).output room
 
 -- by the record in the rack
-pub jumped_by_length_refuted : Demand3 toy (sealing_by by_length_lem) → ⊥
-unfolding computed by_length_lem
+pub jumped_by_length_refuted : Demand3 toy (sealing_by by_length) → ⊥
+unfolding computed by_length
 jumped_by_length_refuted d =
-    let e : ◌≡◌ {A = ℕ} 0x8707070707070707 0x8202020202020202 = ap (λ (r : RunRecord). r.preauthenticator.high) ((one (sealing_by by_length_lem) d by_cipher 16).records 0 refl) in
+    let e : ◌≡◌ {A = ℕ} 0x8707070707070707 0x8202020202020202 = ap (λ (r : RunRecord). r.preauthenticator.high) ((one (sealing_by by_length) d by_cipher 16).records 0 refl) in
     omega arith
 
 -- a sealer that never finds its output too short

@@ -81,10 +81,10 @@ abbrev pub an_iv : List ℕ
 an_iv = replicate 16 2
 
 -- the empty message in one piece, which gets the padding, with any finish
-abbrev pub one_piece_lem : Finish → Setting
-one_piece_lem t = record { key = a_key; work = sealing t an_iv []; pieces = [] ∷ [] }
+abbrev pub one_piece : Finish → Setting
+one_piece t = record { key = a_key; work = sealing t an_iv []; pieces = [] ∷ [] }
 
-pub one_piece_formed : (t : Finish) → WellFormed (one_piece_lem t)
+pub one_piece_formed : (t : Finish) → WellFormed (one_piece t)
 unfolding computed
 one_piece_formed t = record { key_is = a_key_is; iv_bytes = bytes_by an_iv tt; text_bytes = bytes_by [] tt; fits = (refl, lit≤ tt); cut = tt; pieces_are = refl }
 

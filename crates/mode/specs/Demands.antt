@@ -136,7 +136,7 @@ pub record Demand2b (t : Finish) (c : Cipher) : Type 0 where
 -- then gives, by the formulas.
 
 pub record Decided {A : Type 0} (order : List ℕ) (rows : List (ℕ × Bool)) (answer : Answer A) (a : A) : Type 0 where
-  pub in_order : in_order order rows ≡ true
+  pub in-order : in_order order rows ≡ true
   pub refuses : (n : ℕ) → (answer ≡ refused n) ↔ Decides rows n
   pub gives : (x : A) → (answer ≡ given x) ↔ (NoneHolds rows × (a ≡ x))
 
