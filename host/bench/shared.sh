@@ -49,7 +49,7 @@ rename_library() { # NUMBER ARCHIVES...
 find_archives() {
     library='the archives in BALZENOH_LIB_DIR'
     if [ -z "${BALZENOH_LIB_DIR:-}" ]; then
-        (cd "$here/../.." && tools/staticlib balzenoh aes_blocks >/dev/null)
+        (cd "$here/../.." && tools/staticlib balzenoh aes_blocks >&2)
         BALZENOH_LIB_DIR=$here/../../target/staticlib
         library=$(rt version)
     fi

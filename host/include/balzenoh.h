@@ -99,24 +99,24 @@
  *  - Its size, and the stack that each call was seen to use, from its caller's frame down, as
  *    host/stack/run printed them, in bytes:
  *
- *      code       23657
- *      constants   1168
+ *      code       22695
+ *      constants    666
  *      variables      0
  *
- *      seal        3200
- *      open        3407
- *      seal_run    3168
- *      check_run   3135
- *      join         388
- *      join_list    452
- *      close       2560
- *      test        2576
- *      jump         244
- *      sha1         640
- *      seal_sha1   3200
- *      open_sha1   3407
- *      close_sha1  2560
- *      test_sha1   2576
+ *      seal        2896
+ *      open        3135
+ *      seal_run    2896
+ *      check_run   2879
+ *      join         380
+ *      join_list    396
+ *      close       1760
+ *      test        1728
+ *      jump         172
+ *      sha1         644
+ *      seal_sha1   2896
+ *      open_sha1   3135
+ *      close_sha1  1760
+ *      test_sha1   1728
  *
  *    No function recurses. No proof bounds the stack.
  *

@@ -186,6 +186,15 @@ fn an_engine_is_chosen_in_a_copy_of_the_crates() {
     let copy = read("top/target/engines/arithmetic/crates/cipher/src/lib.rt");
     assert_eq!(copy, FACE.replace("ENGINE: u8 = TABLES", "ENGINE: u8 = ARITHMETIC"));
     assert_eq!(read(face), FACE);
+    // A second run keeps what was proved in the copy, and takes the sources anew; what was proved elsewhere stays there.
+    let blocks = "crates/blocks";
+    let in_copy = format!("top/target/engines/arithmetic/{blocks}");
+    checkout.write(&format!("{in_copy}/out/proved"), "here");
+    checkout.write(&format!("{in_copy}/src/old.rt"), "no longer a source");
+    checkout.write(&format!("top/{blocks}/out/proved"), "there");
+    told(&checkout.run("./engine", &["arithmetic"]));
+    assert_eq!(read(&format!("{in_copy}/out/proved")), "here");
+    assert!(!checkout.path(&format!("{in_copy}/src/old.rt")).exists());
     assert!(told(&checkout.run("./engine", &["--help"])).contains("host/engine NAME"));
     for wrong in [&[][..], &["engine"], &["ARITHMETIC"], &[""], &["tables", "arithmetic"]] {
         assert_eq!(checkout.run("./engine", wrong).status.code(), Some(64), "{wrong:?}");
