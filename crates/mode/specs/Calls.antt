@@ -1,5 +1,5 @@
 -- What each call answers: a total function of the contents handed in and of the length of the lent output, and of nothing else. A name that ends in
--- `Within` is the call with any limit n; the call itself has `limit`.
+-- `_within` is the call with any limit n; the call itself has `limit`.
 use Rattle.std.proofs.Math.Option.{Option, some, none as no-message}
 use Rattle.std.specs.Prelude.{List, [], ◌∷◌, ◌++◌, Bool, true, false, cond, not, ℕ, zero, suc, ◌+◌, ◌*◌, ◌-◌, length, take, ℤ}
 use Rattle.blocks.specs.Bytes.{xor_bytes, same, zeros}

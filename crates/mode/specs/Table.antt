@@ -52,7 +52,7 @@ pub record Decides (rows : List (ℕ × Bool)) (n : ℕ) : Type 0 where
 abbrev pub limit : ℕ
 limit = 1048576
 
--- What speaks of the limit takes it as n: the names that end in `Within`. The calls have `limit` for n, by the names without it. Another n stands
+-- What speaks of the limit takes it as n: the names that end in `_within`. The calls have `limit` for n, by the names without it. Another n stands
 -- only where two limits are compared (`LowerLimit` on the demands page).
 module _ (n : ℕ) where
   -- the longest message, whose padding fills the last block
