@@ -70,7 +70,6 @@ fn tell_all(story: &mut Story) -> Result<(), Refusal> {
     opened(story, &key, &list, &sealed);
     damaged(story, &key, &sealed);
     run_left_out(story, &key, &iv, &sealed, &runs);
-    line_changed(story, &key, &iv, &list, &sealed)?;
     tail_first(story)
 }
 
@@ -150,21 +149,6 @@ fn run_left_out(story: &mut Story, key: &Key, iv: &Iv, sealed: &[u8], runs: &[Se
     let shortened = [iv.as_bytes(), &ciphertexts[..], &sealed[sealed.len() - BLOCK..]].concat();
     story.tell("The ciphertext of one run left out, the tag as it was:");
     refused(story, open(key, &shortened), Refusal::TagDiffers);
-}
-
-/// One parcel put into another cage. Two lists under one IV are sealed here to show what that gives away.
-fn line_changed(story: &mut Story, key: &Key, iv: &Iv, list: &[u8], sealed: &[u8]) -> Result<(), Refusal> {
-    let place = list.len() / 2 + 23;
-    let mut changed = list.to_vec();
-    changed[place] ^= 1;
-    let other = seal(key, iv, &changed)?;
-    let differs = |block: &usize| sealed[BLOCK * (block + 1)..][..BLOCK] != other[BLOCK * (block + 1)..][..BLOCK];
-    let differing: Vec<usize> = (0..padded_blocks(list.len())).filter(differs).collect();
-    story.tell(
-        "\nOne parcel put into another cage, and the list sealed again under the same IV, which gives away where it changed:",
-    );
-    story.check(&format!("block {} of the ciphertext differs, and no other", place / BLOCK), differing == [place / BLOCK]);
-    Ok(())
 }
 
 /// A board that knows only the mask of its tail.

@@ -275,7 +275,7 @@ fn the_demonstration_goes_well() {
     let folder = Folder::new("demo");
     let told = String::from_utf8(folder.run(&["demo"]).exits(0).stdout).expect("text");
     assert!(told.contains("refused with 6") && told.contains("refused with 8"));
-    assert!(told.trim_end().ends_with("9 of 9 checks as they should be.") && !told.contains("WRONG"));
+    assert!(told.trim_end().ends_with("8 of 8 checks as they should be.") && !told.contains("WRONG"));
     let readme = std::fs::read_to_string(concat!(env!("CARGO_MANIFEST_DIR"), "/../README.md")).expect("the page");
     assert!(readme.contains(&format!("```text\n{told}```")), "README does not have what the demonstration prints");
 }
