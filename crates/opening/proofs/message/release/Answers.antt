@@ -15,27 +15,18 @@ use Rattle.opening.proofs.Padding.{end_within}
 use Rattle.opening.proofs.Passes.{front_long, front-whole}
 use Rattle.opening.proofs.Opening.{nothing-released, short_of_room, message_released}
 use Rattle.opening.proofs.message.release.Goals as goal
-use Rattle.opening.proofs.message.release.Tie as tie
-use Rattle.opening.proofs.message.release.Lts as lts
-use Rattle.opening.proofs.message.release.Reads as reads
-
-abbrev At_start : Type 0
-At_start = lts.Start tie.the-claims reads.Pre reads.Post tie.handed_clauses
-
-last-long : (c : At_start) → length c.args.last ≡ 16
-last-long c = search rules
-
-front-size : (c : At_start) → length (front_of (key_of c.args.keys.now) (bytes_of c.args.start) c.args.text.now) ≡ length c.args.text.now - 16
-front-size c = front_long c.args.text.now c.requires.ciphertext (key_of c.args.keys.now) (bytes_of c.args.start) c.requires.expanded.size (block-bytes_of c.args.start).long
 
 pub overflow_add-length : goal.overflow_add-length
-overflow_add-length c = record { fits = omega (arith, c.message_end-end.ensures, end_within c.args.last (last-long c.before.before.before.before), c.requires.ciphertext.least, c.well_formed) }
+overflow_add-length c =
+    let long : length c.args.last ≡ 16 = search rules in
+    record { fits = omega (arith, c.message_end-end.ensures, end_within c.args.last long, c.requires.ciphertext.least, c.well_formed) }
 
 pub returns-then-end-eq16 : goal.returns-then-end-eq16
 returns-then-end-eq16 c =
     let a = c.args in
+    let long : length a.last ≡ 16 = search rules in
     let w = front-whole a.text.now c.requires.ciphertext (key_of a.keys.now) (bytes_of a.start) c.requires.expanded.size (block-bytes_of a.start).long in
-    let r = nothing-released (front_of (key_of a.keys.now) (bytes_of a.start) a.text.now) a.last (length a.out.now) w (last-long c.before.before.before.before.before) (sym c.message_end-end.ensures ∙ c.if-end-eq16.true) in
+    let r = nothing-released (front_of (key_of a.keys.now) (bytes_of a.start) a.text.now) a.last (length a.out.now) w long (sym c.message_end-end.ensures ∙ c.if-end-eq16.true) in
     record {
       answer = r.0;
       output = c.requires.fresh.zero ∙ r.1;
@@ -45,9 +36,12 @@ pub returns-then-out-length : goal.returns-then-out-length
 returns-then-out-length c =
     let a = c.args in
     let m = c.message_end-end in
+    let long : length a.last ≡ 16 = search rules in
+    let padded : ¬ (m.result ≡ 16) = search rules in
+    let size = front_long a.text.now c.requires.ciphertext (key_of a.keys.now) (bytes_of a.start) c.requires.expanded.size (block-bytes_of a.start).long in
     let w = front-whole a.text.now c.requires.ciphertext (key_of a.keys.now) (bytes_of a.start) c.requires.expanded.size (block-bytes_of a.start).long in
-    let r = short_of_room (front_of (key_of a.keys.now) (bytes_of a.start) a.text.now) a.last (length a.out.now) w (last-long c.before.before.before.before.before.before) m.result m.ensures c.if-end-eq16.false
-    (omega (arith, m.ensures, end_within a.last (last-long c.before.before.before.before.before.before))) (omega (arith, front-size c.before.before.before.before.before.before, c.if-out-length.true)) in
+    let r = short_of_room (front_of (key_of a.keys.now) (bytes_of a.start) a.text.now) a.last (length a.out.now) w long m.result m.ensures padded
+    (omega (arith, m.ensures, end_within a.last long)) (omega (arith, size, c.if-out-length.true)) in
     record {
       answer = r.0;
       output = c.requires.fresh.zero ∙ r.1;
@@ -56,11 +50,12 @@ returns-then-out-length c =
 pub write-requires : goal.write-requires
 write-requires c =
     let m = c.message_end-end in
+    let long : length c.args.last ≡ 16 = search rules in
     record {
       expanded = c.requires.expanded;
       ciphertext = c.requires.ciphertext;
       fresh = c.requires.fresh;
-      end_bound = omega (arith, m.ensures, end_within c.args.last (last-long c.before.before.before.before.before.before.before));
+      end_bound = omega (arith, m.ensures, end_within c.args.last long);
       end_in_bounds = omega (arith, c.if-out-length.false);
     }
 
@@ -69,10 +64,12 @@ returns c =
     let a = c.args in
     let m = c.message_end-end in
     let front = front_of (key_of a.keys.now) (bytes_of a.start) a.text.now in
-    let n = front-size c.before.before.before.before.before.before.before.before.before.before in
+    let long : length a.last ≡ 16 = search rules in
+    let padded : ¬ (m.result ≡ 16) = search rules in
+    let n = front_long a.text.now c.requires.ciphertext (key_of a.keys.now) (bytes_of a.start) c.requires.expanded.size (block-bytes_of a.start).long in
     let w = front-whole a.text.now c.requires.ciphertext (key_of a.keys.now) (bytes_of a.start) c.requires.expanded.size (block-bytes_of a.start).long in
-    let r = message_released front a.last (length a.out.now) w (last-long c.before.before.before.before.before.before.before.before.before.before) m.result m.ensures c.if-end-eq16.false
-    (omega (arith, m.ensures, end_within a.last (last-long c.before.before.before.before.before.before.before.before.before.before))) (omega (arith, n, c.if-out-length.false)) in
+    let r = message_released front a.last (length a.out.now) w long m.result m.ensures padded
+    (omega (arith, m.ensures, end_within a.last long)) (omega (arith, n, c.if-out-length.false)) in
     record {
       answer = ap (λ (k : ℕ). written_given (k + m.result)) (sym n) ∙ r.0;
       output = c.write.ensures ∙ ap (λ (k : ℕ). front ++ take m.result a.last ++ zeros (length a.out.now - (k + m.result))) (sym n) ∙ r.1;
