@@ -148,6 +148,8 @@ def in_clauses(text, turn):
 
 
 def main():
+    if sys.argv[1:] not in ([], ["--list"]):
+        raise SystemExit(__doc__)
     table = respelled(*defined(), library()) | {w: snake(w) for w in aliases()} | BACK | PLAIN
     if "--list" in sys.argv:
         for name, new in sorted(table.items()):
