@@ -165,14 +165,16 @@ fn an_earlier_library_is_built_in_a_copy_of_its_crates() {
     assert_eq!((output.status.code(), output.stdout.is_empty()), (Some(69), true));
 }
 
-/// A face with two engines, the first of them chosen.
-const FACE: &str = "pub const TABLES: u8 = 0;\npub const ARITHMETIC: u8 = 1;\npub const ENGINE: u8 = TABLES;\n";
+/// Two engines, and a face that chooses the first.
+const ENGINES: &str = "pub enum Engine {\n    // By tables.\n    Tables,\n    Arithmetic,\n}\n";
+const FACE: &str = "pub const ENGINE: Engine = Engine::Tables;\n";
 
 #[test]
 fn an_engine_is_chosen_in_a_copy_of_the_crates() {
     let checkout = Checkout::new("engine");
     let face = "top/crates/cipher/src/lib.rt";
     checkout.write(face, FACE);
+    checkout.write("top/crates/cipher/src/engine.rt", ENGINES);
     let read = |name: &str| fs::read_to_string(checkout.path(name)).expect("a face");
     assert_eq!(told(&checkout.run("./engine", &["--names"])), "tables\narithmetic\n");
     let output = checkout.run("./engine", &["arithmetic"]);
@@ -184,7 +186,7 @@ fn an_engine_is_chosen_in_a_copy_of_the_crates() {
     }
     // The constant is another one in the copy, and nothing else.
     let copy = read("top/target/engines/arithmetic/crates/cipher/src/lib.rt");
-    assert_eq!(copy, FACE.replace("ENGINE: u8 = TABLES", "ENGINE: u8 = ARITHMETIC"));
+    assert_eq!(copy, FACE.replace("Engine::Tables", "Engine::Arithmetic"));
     assert_eq!(read(face), FACE);
     // A second run keeps what was proved in the copy, and takes the sources anew; what was proved elsewhere stays there.
     let blocks = "crates/blocks";

@@ -10,12 +10,17 @@ use std::path::{Path, PathBuf};
 /// The engine, the steps below it, and the groups and blocks that it takes its input from.
 const TABLE_FREE: [&str; 4] = ["aes_arithmetic/src", "aes_steps/src", "groups/src", "blocks/src/words.rt"];
 
-/// What may be compared: counters of blocks, rounds, words and bytes, and what is counted from the key's length.
-const COUNTERS: [&str; 10] = ["i", "n", "from", "to", "in", "left", "words", "BLOCKS", "nk", "end"];
+/// What may be compared: counters of blocks, rounds, words and bytes, and what is counted from the key's length; `rev` has a loop count down.
+const COUNTERS: [&str; 11] = ["i", "n", "from", "to", "in", "left", "words", "BLOCKS", "nk", "end", "rev"];
 
-/// All that is done with the byte of a schedule that is no data, in this order: its place, the two casts of it, and how it is written.
-const NUMBER_OF_ROUNDS: [&str; 4] =
-    ["const ROUNDS: usize = 240;", "w[ROUNDS] as usize", "w[ROUNDS] as usize / 2", "w[ROUNDS] = (end / 4 + 6) as u8;"];
+/// All that is done with the byte of a schedule that is no data, in this order: its place, how it is written, and the two casts of it.
+const NUMBER_OF_ROUNDS: [&str; 5] = [
+    "use crate::schedule::{BYTES, ROUNDS};",
+    "self.schedule[ROUNDS] as usize",
+    "self.schedule[ROUNDS] as usize / 2",
+    "pub(crate) const ROUNDS: usize = 240;",
+    "w[ROUNDS] = (end / 4 + 6) as u8;",
+];
 
 /// Where the counters that a key gives come from: its length.
 const FROM_THE_KEY: [&str; 3] = ["let nk = key.len() / 4;", "let end = 4 * (nk + 7);", "let end = key.len();"];
@@ -25,7 +30,9 @@ fn sources(path: &Path) -> Vec<PathBuf> {
         return vec![path.to_path_buf()];
     }
     let entries = fs::read_dir(path).expect("a folder of sources").map(|entry| entry.expect("an entry").path());
-    entries.flat_map(|entry| sources(&entry)).collect()
+    let mut entries: Vec<PathBuf> = entries.collect();
+    entries.sort();
+    entries.iter().flat_map(|entry| sources(entry)).collect()
 }
 
 /// The code alone, line by line: no comments, and nothing of the contracts.
@@ -50,11 +57,19 @@ fn casts(line: &str) -> bool {
     line.contains("as usize")
 }
 
-/// A condition that names anything but counters and numbers.
+/// What chooses or stops by a closure's answer, and so is a condition in another form.
+const CHOOSERS: [&str; 10] =
+    ["filter", "find", "position", "any", "all", "take_while", "skip_while", "then", "then_some", "is_some_and"];
+
+/// A condition that names anything but counters and numbers. The `for` of an `impl` is none.
 fn branches_on_data(line: &str) -> bool {
     let condition = line.split('{').next().unwrap_or_default();
+    if words(condition).next() == Some("impl") {
+        return false;
+    }
     let mut told = words(condition).skip_while(|word| !["if", "while", "for", "match"].contains(word)).skip(1);
-    told.any(|word| !COUNTERS.contains(&word) && !word.chars().all(|c| c.is_ascii_digit()))
+    let number = |word: &str| word.starts_with(|c: char| c.is_ascii_digit());
+    told.any(|word| !COUNTERS.contains(&word) && !number(word)) || words(line).any(|word| CHOOSERS.contains(&word))
 }
 
 /// A line that gives one of the two counters that a key gives its value.
@@ -83,6 +98,8 @@ fn nothing_branches_on_data() {
     }
     // A test of a byte is found, and a loop is none.
     assert!(branches_on_data("if s[i] == 0 {") && branches_on_data("let r = if a { b } else { c };"));
+    assert!(branches_on_data("s.iter().any(|byte| *byte == 0)"));
     assert!(!branches_on_data("while i < 16 {") && !branches_on_data("for i in 0..16 {"));
+    assert!(!branches_on_data("for i in (from..to).rev() {") && !branches_on_data("impl SBox for Arithmetic {"));
     assert!(sets_from_the_key("let mut end = w[0];") && sets_from_the_key("nk += 1;") && !sets_from_the_key("let mut i = nk;"));
 }

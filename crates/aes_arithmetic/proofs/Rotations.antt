@@ -1,12 +1,13 @@
 -- The affine step as sums of rotations, held to its bits at every byte.
 use mathlib.Core.Path.{◌≡◌}
-use Prim.Native.Nat.{ℕ, ◌-◌, ◌*◌, ◌/◌, ◌%◌, ◌^◌, ◌<◌}
+use Prim.Native.Nat.{ℕ, ◌<◌}
 use lib.Bits.{bit_xor}
+use Rattle.std.specs.Int.{rotate_left, w8}
 use Rattle.blocks.proofs.Test.{equal-below}
 use Rattle.fips197.specs.Sbox.{affine, inv_affine}
 
 abbrev pub rotated : ℕ → ℕ → ℕ
-rotated x n = bit_xor (x * 2 ^ n % 256) (x / 2 ^ (8 - n))
+rotated x n = rotate_left w8 x n
 
 abbrev pub five_turns : ℕ → ℕ
 five_turns x = bit_xor (bit_xor (bit_xor (bit_xor (bit_xor x (rotated x 1)) (rotated x 2)) (rotated x 3)) (rotated x 4)) 0x63

@@ -17,11 +17,9 @@ fn product(a: u8, b: u8) -> u8
 {
     let mut r: u8 = 0;
     let mut multiple = b;
-    let mut i: u32 = 0;
-    while i < 8 {
-        r = r ^ where_set((a >> i) % 2, multiple);
+    for i in 0..8u32 {
+        r ^= where_set((a >> i) % 2, multiple);
         multiple = aes_steps::state::double(multiple);
-        i += 1;
     }
     r
 }
@@ -32,11 +30,9 @@ fn square(a: u8) -> u8
 {
     let mut r: u8 = 0;
     let mut even: u8 = 1;
-    let mut i: u32 = 0;
-    while i < 8 {
-        r = r ^ where_set((a >> i) % 2, even);
+    for i in 0..8u32 {
+        r ^= where_set((a >> i) % 2, even);
         even = aes_steps::state::double(aes_steps::state::double(even));
-        i += 1;
     }
     r
 }

@@ -1,7 +1,8 @@
-// FIPS 197, 5.1.1 and 5.3.2: the S-box at each byte, and its inverse.
+// FIPS 197, 5.1.1, 5.2 and 5.3.2: the S-box at each byte, and its inverse.
 ghost use Rattle.std.specs.Prelude.{◌≡◌};
 ghost use Rattle.fips197.specs.State.{sub_bytes, inv_sub_bytes};
-ghost use Rattle.fips197.specs.KeyExpansion.{sub_word};
+
+use aes_steps::sbox::SBox;
 
 // The inverse, then the affine step.
 pub fn sub_bytes(s: [u8; 16]) -> [u8; 16]
@@ -19,10 +20,24 @@ pub fn inv_sub_bytes(s: [u8; 16]) -> [u8; 16]
     crate::field::inverses(t)
 }
 
-// A word is the front of a state.
-pub(crate) fn sub_word(t: [u8; 4]) -> [u8; 4]
-    ensures { result ≡ sub_word t }
-{
-    let s = sub_bytes([t[0], t[1], t[2], t[3], 0, 0, 0, 0, 0, 0, 0, 0, 0, 0, 0, 0]);
-    [s[0], s[1], s[2], s[3]]
+// The S-box worked out.
+#[derive(Clone, Copy)]
+pub struct Arithmetic;
+
+impl SBox for Arithmetic {
+    fn sub_shift(&self, s: [u8; 16]) -> [u8; 16] {
+        let t = sub_bytes(s);
+        aes_steps::state::shift_rows(t)
+    }
+
+    fn inv_shift_sub(&self, s: [u8; 16]) -> [u8; 16] {
+        let t = aes_steps::state::inv_shift_rows(s);
+        inv_sub_bytes(t)
+    }
+
+    // A word is the front of a state.
+    fn sub_word(&self, t: [u8; 4]) -> [u8; 4] {
+        let s = sub_bytes([t[0], t[1], t[2], t[3], 0, 0, 0, 0, 0, 0, 0, 0, 0, 0, 0, 0]);
+        [s[0], s[1], s[2], s[3]]
+    }
 }

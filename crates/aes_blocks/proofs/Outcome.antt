@@ -11,6 +11,9 @@ use Rattle.blocks.specs.Bytes.{zeros}
 use Rattle.blocks.proofs.Zeros.{drop-zeros}
 use Rattle.fips197.specs.Aes.{KeyLength, not_key}
 use Rattle.fips197.proofs.Keys.{has_key}
+use Rattle.aes_blocks.specs.Answer.{number_of}
+use Rattle.aes_blocks.specs.declared.refusal.Refusal.{Refusal}
+use Rattle.aes_blocks.specs.declared.refusal.Refusal.TheVariants.{KeyLength as BadKey, TextLength, OutputTooShort}
 use Rattle.aes_blocks.specs.EachBlock.{each, refusal, output}
 
 -- ---- the rows, as the code tests them
@@ -85,3 +88,10 @@ module _ (cipher : List ℕ → List ℕ → List ℕ) (key text : List ℕ) (ro
       ∙ ap₂ (λ (k x : List ℕ). each (cipher k) text ++ x) ek
       (ap₂ (λ (n : ℕ) (x : List ℕ). drop n x) m eo ∙ drop-zeros (length text) room)
       ∙ ap (λ (t : Bool). cond t bytes (zeros room)) (sym (eq-eqb (refusal key text room) 0 z))
+
+-- ---- what is answered
+
+pub number-some : (refusal : Refusal) → number_of refusal ≡ 0 → ⊥
+number-some BadKey e = omega arith
+number-some TextLength e = omega arith
+number-some OutputTooShort e = omega arith

@@ -1,32 +1,18 @@
-// Cases, counted where they agree. Each is run on the engine whose number it is given, under a key of 16 or 32 bytes; under a key of any other
-// length none agrees.
-ghost use Rattle.std.specs.Prelude.{◌≡◌, ◌≤◌, length};
-ghost use Rattle.fips197.specs.Aes.{KeyLength};
+// What a case checks, on the engine that it is given.
+ghost use Rattle.std.specs.Prelude.{◌≡◌, length, false};
+ghost use Rattle.fips197.specs.Aes.{not_key};
+ghost use Rattle.cipher.specs.Keys.{Expanded};
 
-// One case, or none.
-pub fn one_if(agreed: bool) -> usize
-    ensures { result ≤ 1 }
-{
-    if agreed { 1 } else { 0 }
+use case_text::agreed;
+use cipher::engine::Engine;
+
+// A key of 16 or 32 bytes, and an engine.
+#[derive(Clone, Copy)]
+pub struct Keyed<'a> {
+    engine: Engine,
+    key: &'a [u8],
+    ghost taken: { not_key key.now ≡ false },
 }
-
-// ---- one block, both ways
-
-fn encrypted(engine: u8, key: &[u8], block: [u8; 16]) -> [u8; 16]
-    requires { KeyLength key.now }
-{
-    let keys = cipher::by::expand(engine, key);
-    cipher::by::encrypt_block(engine, block, &keys)
-}
-
-fn decrypted(engine: u8, key: &[u8], block: [u8; 16]) -> [u8; 16]
-    requires { KeyLength key.now }
-{
-    let keys = cipher::by::expand(engine, key);
-    cipher::by::decrypt_block(engine, block, &keys)
-}
-
-// ---- the state after half of the rounds, where the two halves of the cipher meet
 
 // A group that has one block.
 fn group_of(block: [u8; 16]) -> [u64; groups::WORDS]
@@ -37,64 +23,90 @@ fn group_of(block: [u8; 16]) -> [u64; groups::WORDS]
     group
 }
 
-fn from_plaintext(engine: u8, key: &[u8], block: [u8; 16]) -> [u8; 16]
-    requires { KeyLength key.now }
-{
-    let keys = cipher::by::expand(engine, key);
-    let mut group = group_of(block);
-    let mut middle = [0u64; groups::WORDS];
-    cipher::by::encrypt(engine, &mut group, &mut middle, 1, &keys);
-    blocks::words::to_bytes(groups::get(&middle, 0))
-}
+impl<'a> Keyed<'a> {
+    // A key of any other length has none.
+    pub fn of(engine: Engine, key: &'a [u8]) -> Option<Keyed<'a>> {
+        if cipher::not_key(key) {
+            return None;
+        }
+        Some(Keyed { engine, key })
+    }
 
-fn from_ciphertext(engine: u8, key: &[u8], block: [u8; 16]) -> [u8; 16]
-    requires { KeyLength key.now }
-{
-    let keys = cipher::by::expand(engine, key);
-    let mut group = group_of(block);
-    cipher::by::middletexts(engine, &mut group, 1, &keys);
-    blocks::words::to_bytes(groups::get(&group, 0))
+    #[tactic(auto, using(fips197::proofs::Keys::has_key))]
+    pub fn schedule(&self) -> [u8; cipher::KEYS]
+        ensures { Expanded result }
+    {
+        cipher::by::expand(self.engine, self.key)
+    }
+
+    // ---- one block, both ways
+
+    fn encrypted(&self, block: [u8; 16]) -> [u8; 16] {
+        cipher::by::encrypt_block(self.engine, block, &self.schedule())
+    }
+
+    fn decrypted(&self, block: [u8; 16]) -> [u8; 16] {
+        cipher::by::decrypt_block(self.engine, block, &self.schedule())
+    }
+
+    // ---- the state after half of the rounds, where the two halves of the cipher meet
+
+    fn from_plaintext(&self, block: [u8; 16]) -> [u8; 16] {
+        let mut group = group_of(block);
+        let mut middle = [0u64; groups::WORDS];
+        cipher::by::encrypt(self.engine, &mut group, &mut middle, 1, &self.schedule());
+        groups::get(&middle, 0).into()
+    }
+
+    fn from_ciphertext(&self, block: [u8; 16]) -> [u8; 16] {
+        let mut group = group_of(block);
+        cipher::by::middletexts(self.engine, &mut group, 1, &self.schedule());
+        groups::get(&group, 0).into()
+    }
 }
 
 // ---- cases
 
-// How many cases agreed, by what was tried.
-#[derive(Clone, Copy)]
-pub struct Agreed {
-    pub encrypted: usize,
-    pub decrypted: usize,
-    pub met: usize,
+// What agreed of a key, a block and its encryption: the block encrypted and decrypted; and the two halves, the first from the plaintext and the
+// second undone from the ciphertext, which come to the same state.
+#[derive(Clone, Copy, Debug, PartialEq, Eq)]
+pub struct Triple {
+    pub encrypted: bool,
+    pub decrypted: bool,
+    pub met: bool,
 }
 
-// A block encrypted and decrypted; and the two halves, the first from the plaintext and the second undone from the ciphertext, come to the same
-// state.
-pub fn triple(engine: u8, key: &[u8], plain: [u8; 16], cipher: [u8; 16]) -> Agreed
-    ensures { (result.encrypted ≤ 1) × (result.decrypted ≤ 1) × (result.met ≤ 1) }
-{
-    if cipher::not_key(key) {
-        return Agreed {
-            encrypted: 0,
-            decrypted: 0,
-            met: 0,
-        };
-    }
-    let forwards = from_plaintext(engine, key, plain);
-    let backwards = from_ciphertext(engine, key, cipher);
-    Agreed {
-        encrypted: one_if(blocks::block::equal(encrypted(engine, key, plain), cipher)),
-        decrypted: one_if(blocks::block::equal(decrypted(engine, key, cipher), plain)),
-        met: one_if(blocks::block::equal(forwards, backwards)),
+impl Triple {
+    // Under a key of any other length none agrees.
+    pub fn of(engine: Engine, key: &[u8], plain: [u8; 16], cipher: [u8; 16]) -> Triple {
+        match Keyed::of(engine, key) {
+            Some(keyed) => Triple {
+                encrypted: keyed.encrypted(plain) == cipher,
+                decrypted: keyed.decrypted(cipher) == plain,
+                met: keyed.from_plaintext(plain) == keyed.from_ciphertext(cipher),
+            },
+            None => Triple {
+                encrypted: false,
+                decrypted: false,
+                met: false,
+            },
+        }
     }
 }
 
 // The first half from the plaintext, and the second undone from the ciphertext, each come to a state.
-pub fn middles(engine: u8, key: &[u8], plain: [u8; 16], cipher: [u8; 16], middle: [u8; 16]) -> usize
-    ensures { result ≤ 2 }
-{
-    if cipher::not_key(key) {
-        return 0;
+pub fn middles(
+    engine: Engine,
+    key: &[u8],
+    plain: [u8; 16],
+    cipher: [u8; 16],
+    middle: [u8; 16],
+) -> usize {
+    match Keyed::of(engine, key) {
+        Some(keyed) => agreed(&[
+            keyed.from_plaintext(plain) == middle,
+            keyed.from_ciphertext(cipher) == middle,
+        ]),
+        None => 0,
     }
-    let forwards = from_plaintext(engine, key, plain);
-    let backwards = from_ciphertext(engine, key, cipher);
-    one_if(blocks::block::equal(forwards, middle)) + one_if(blocks::block::equal(backwards, middle))
 }

@@ -1,8 +1,8 @@
-// The examples of FIPS 197, on an engine by its number: each function answers how many of its cases agree.
-ghost use Rattle.std.specs.Prelude.{◌≡◌, ◌*◌, ◌<◌, ◌≤◌, length};
-
-use crate::agree::{middles, one_if, triple};
-use crate::hex::{block, long};
+// The examples of FIPS 197, on an engine: each function answers how many of its cases agree.
+use crate::agree::{Keyed, Triple, middles};
+use crate::hex::{block, bytes};
+use case_text::agreed;
+use cipher::engine::Engine;
 
 // ---- appendix A: the words of an expanded key
 
@@ -28,59 +28,39 @@ const WORDS_OF_EIGHT: [u32; 60] = [
     0xfe4890d1, 0xe6188d0b, 0x046df344, 0x706c631e,
 ];
 
-fn wide(x: u8) -> u32 {
-    x as u32
-}
-
-// A word of the expanded key as a number, its first byte at the top.
-fn word(keys: &[u8; cipher::KEYS], i: usize) -> u32
-    requires { i < 60 }
-{
-    let at = i * 4;
-    (wide(keys[at]) << 24)
-        ^ (wide(keys[at + 1]) << 16)
-        ^ (wide(keys[at + 2]) << 8)
-        ^ wide(keys[at + 3])
-}
-
-// How many words of a key's schedule are as printed.
-fn expands(engine: u8, key: &[u8], printed: &[u32]) -> usize
-    requires { length printed.now ≤ 60 }
-{
-    if cipher::not_key(key) {
+// How many words of a key's schedule are as printed, each as a number, its first byte at the top.
+fn expands(engine: Engine, key: &[u8], printed: &[u32]) -> usize {
+    let Some(keyed) = Keyed::of(engine, key) else {
         return 0;
-    }
-    let keys = cipher::by::expand(engine, key);
-    let mut agreed: usize = 0;
-    let mut i: usize = 0;
-    while i < printed.len() {
-        agreed += one_if(word(&keys, i) == printed[i]);
-        i += 1;
-    }
-    agreed
+    };
+    let schedule = keyed.schedule();
+    let (words, _) = schedule.as_chunks::<4>();
+    words
+        .iter()
+        .zip(printed)
+        .filter(|(word, number)| u32::from_be_bytes(**word) == **number)
+        .count()
 }
 
-pub fn words_of_four(engine: u8) -> usize {
+pub fn words_of_four(engine: Engine) -> usize {
     let key = block(b"2b7e151628aed2a6abf7158809cf4f3c");
-    let printed = WORDS_OF_FOUR;
-    expands(engine, &key, &printed)
+    expands(engine, &key, &WORDS_OF_FOUR)
 }
 
-pub fn words_of_eight(engine: u8) -> usize {
-    let key = long(b"603deb1015ca71be2b73aef0857d77811f352c073b6108d72d9810a30914dff4");
-    let printed = WORDS_OF_EIGHT;
-    expands(engine, &key, &printed)
+pub fn words_of_eight(engine: Engine) -> usize {
+    let key: [u8; 32] = bytes(b"603deb1015ca71be2b73aef0857d77811f352c073b6108d72d9810a30914dff4");
+    expands(engine, &key, &WORDS_OF_EIGHT)
 }
 
 // ---- appendices B and C: a block
 
 // Encryption and decryption of one block.
-fn both_ways(engine: u8, key: &[u8], plain: [u8; 16], cipher: [u8; 16]) -> usize {
-    let agreed = triple(engine, key, plain, cipher);
-    agreed.encrypted + agreed.decrypted
+fn both_ways(engine: Engine, key: &[u8], plain: [u8; 16], cipher: [u8; 16]) -> usize {
+    let triple = Triple::of(engine, key, plain, cipher);
+    agreed(&[triple.encrypted, triple.decrypted])
 }
 
-pub fn appendix_b(engine: u8) -> usize {
+pub fn appendix_b(engine: Engine) -> usize {
     let key = block(b"2b7e151628aed2a6abf7158809cf4f3c");
     both_ways(
         engine,
@@ -95,14 +75,14 @@ fn plaintext() -> [u8; 16] {
     block(b"00112233445566778899aabbccddeeff")
 }
 
-pub fn appendix_c1(engine: u8) -> usize {
+pub fn appendix_c1(engine: Engine) -> usize {
     let key = block(b"000102030405060708090a0b0c0d0e0f");
     let cipher = block(b"69c4e0d86a7b0430d8cdb78070b4c55a");
     both_ways(engine, &key, plaintext(), cipher)
 }
 
 // The state after round 5, which is printed as `round[ 6].start`: from the plaintext, and from the ciphertext.
-pub fn appendix_c1_middle(engine: u8) -> usize {
+pub fn appendix_c1_middle(engine: Engine) -> usize {
     let key = block(b"000102030405060708090a0b0c0d0e0f");
     let cipher = block(b"69c4e0d86a7b0430d8cdb78070b4c55a");
     let middle = block(b"c81677bc9b7ac93b25027992b0261996");
@@ -110,17 +90,17 @@ pub fn appendix_c1_middle(engine: u8) -> usize {
 }
 
 fn long_key() -> [u8; 32] {
-    long(b"000102030405060708090a0b0c0d0e0f101112131415161718191a1b1c1d1e1f")
+    bytes(b"000102030405060708090a0b0c0d0e0f101112131415161718191a1b1c1d1e1f")
 }
 
-pub fn appendix_c3(engine: u8) -> usize {
+pub fn appendix_c3(engine: Engine) -> usize {
     let key = long_key();
     let cipher = block(b"8ea2b7ca516745bfeafc49904b496089");
     both_ways(engine, &key, plaintext(), cipher)
 }
 
 // The state after round 7, which is printed as `round[ 8].start`.
-pub fn appendix_c3_middle(engine: u8) -> usize {
+pub fn appendix_c3_middle(engine: Engine) -> usize {
     let key = long_key();
     let cipher = block(b"8ea2b7ca516745bfeafc49904b496089");
     let middle = block(b"d653a4696ca0bc0f5acaab5db96c5e7d");

@@ -1,49 +1,20 @@
-// Blocks from lower-case hexadecimal digits.
-ghost use Rattle.std.specs.Prelude.{◌+◌, ◌<◌, ◌≤◌, length};
+// Bytes from lower-case hexadecimal digits.
+use case_text::hex::{bytes_by, digit};
 
-// What a digit stands for. What is no digit counts as 0.
-fn digit(c: u8) -> u8
-    ensures { result < 16 }
-{
+// What a digit stands for. What is no lower-case digit counts as 0, an upper-case one too, which the other programs take: so this one is apart.
+fn lower(c: u8) -> u8 {
     match c {
-        b'0'..=b'9' => c - b'0',
-        b'a'..=b'f' => c - b'a' + 10,
-        _ => 0,
+        b'A'..=b'F' => 0,
+        _ => digit(c),
     }
 }
 
-// The block that 32 digits of a text spell, from an offset.
-pub fn block_at(text: &[u8], at: usize) -> [u8; 16]
-    requires { at + 32 ≤ length text.now }
-{
-    let mut r = [0u8; 16];
-    for i in 0..16 {
-        r[i] = digit(text[at + i * 2]) * 16 + digit(text[at + i * 2 + 1]);
-    }
-    r
+// The bytes that digits spell, two digits each, as many as there is room for. Behind them stand zeros.
+pub fn bytes<const N: usize>(digits: &[u8]) -> [u8; N] {
+    bytes_by(digits, lower)
 }
 
 // The block that 32 digits spell.
-pub fn block(text: &[u8; 32]) -> [u8; 16] {
-    block_at(text, 0)
-}
-
-// The bytes that digits of a text spell, from an offset: a block, and where 32 bytes are asked for another, else zeros.
-pub fn key_at(text: &[u8], at: usize, size: usize) -> [u8; 32]
-    requires { at + 32 ≤ length text.now }
-{
-    let mut r = [0u8; 32];
-    blocks::block::store(&mut r, 0, block_at(text, at));
-    if size < 32 {
-        return r;
-    }
-    if at + 64 <= text.len() {
-        blocks::block::store(&mut r, 16, block_at(text, at + 32));
-    }
-    r
-}
-
-// The 32 bytes that 64 digits spell.
-pub fn long(text: &[u8; 64]) -> [u8; 32] {
-    key_at(text, 0, 32)
+pub fn block(digits: &[u8; 32]) -> [u8; 16] {
+    bytes(digits)
 }

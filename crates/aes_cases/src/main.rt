@@ -1,9 +1,8 @@
 #![tactic(auto)]
 // Published vectors of AES-128 and AES-256 and vectors of OpenSSL's, run against the proved library on each of its engines; and the engines beside
 // each other. Each line says how many cases agreed.
-ghost use Rattle.std.specs.Prelude.{◌≤◌};
-
 use case_text::file;
+use cipher::engine::Engine;
 use std::io;
 use std::rt::Files;
 
@@ -11,83 +10,78 @@ mod hex; // hex.rt: blocks from hexadecimal digits
 mod agree; // agree.rt: what a case checks
 mod fips; // fips.rt: the examples of FIPS 197
 mod sboxes; // sboxes.rt: the S-box, looked up and worked out
+mod lines; // lines.rt: the lines of a file
 mod openssl; // openssl.rt: the triples of a file
 mod both; // both.rt: two engines on the same keys and blocks
 
 // `name: agreed of all what`
-fn report(rt: &impl Print, name: &[u8], agreed: usize, all: usize, what: &[u8]) -> io::Result<()> {
-    rt.write_all(name)?;
-    print!(rt; ": {agreed} of {all} ")?;
-    rt.write_all(what)?;
-    println!(rt)
+fn report(rt: &impl Print, name: &str, agreed: usize, all: usize, what: &str) -> io::Result<()> {
+    println!(rt; "{name}: {agreed} of {all} {what}")
 }
 
-fn report_examples(rt: &impl Print, engine: u8) -> io::Result<()> {
+fn report_examples(rt: &impl Print, engine: Engine) -> io::Result<()> {
     let four = fips::words_of_four(engine);
-    report(rt, b"FIPS 197 A.1, key expansion", four, 44, b"words")?;
+    report(rt, "FIPS 197 A.1, key expansion", four, 44, "words")?;
     let eight = fips::words_of_eight(engine);
-    report(rt, b"FIPS 197 A.3, key expansion", eight, 60, b"words")?;
+    report(rt, "FIPS 197 A.3, key expansion", eight, 60, "words")?;
     let b = fips::appendix_b(engine);
-    report(rt, b"FIPS 197 B, both ways", b, 2, b"blocks")?;
+    report(rt, "FIPS 197 B, both ways", b, 2, "blocks")?;
     let c1 = fips::appendix_c1(engine);
-    report(rt, b"FIPS 197 C.1, both ways", c1, 2, b"blocks")?;
+    report(rt, "FIPS 197 C.1, both ways", c1, 2, "blocks")?;
     let c1_middle = fips::appendix_c1_middle(engine);
-    report(rt, b"FIPS 197 C.1, round 6 start", c1_middle, 2, b"states")?;
+    report(rt, "FIPS 197 C.1, round 6 start", c1_middle, 2, "states")?;
     let c3 = fips::appendix_c3(engine);
-    report(rt, b"FIPS 197 C.3, both ways", c3, 2, b"blocks")?;
+    report(rt, "FIPS 197 C.3, both ways", c3, 2, "blocks")?;
     let c3_middle = fips::appendix_c3_middle(engine);
-    report(rt, b"FIPS 197 C.3, round 8 start", c3_middle, 2, b"states")
+    report(rt, "FIPS 197 C.3, round 8 start", c3_middle, 2, "states")
 }
 
 fn report_tables(rt: &impl Print) -> io::Result<()> {
     let tables = sboxes::tables();
-    report(rt, b"FIPS 197, both tables", tables, 10, b"entries")?;
+    report(rt, "FIPS 197, both tables", tables, 10, "entries")?;
     let worked_out = sboxes::worked_out();
-    report(rt, b"both tables, worked out", worked_out, 512, b"entries")
+    report(rt, "both tables, worked out", worked_out, 512, "entries")
 }
 
 // ---- the triples of a file, under keys of one length
 
-fn report_triples(
-    rt: &impl Print,
-    engine: u8,
+fn report_triples<R: Print + Alloc>(
+    rt: &R,
+    engine: Engine,
     text: &[u8],
     size: usize,
     all: usize,
-) -> io::Result<()>
-    requires { size ≤ 32 }
-{
-    let agreed = openssl::run(engine, text, size);
-    report(rt, b"OpenSSL, encryption", agreed.encrypted, all, b"blocks")?;
-    report(rt, b"OpenSSL, decryption", agreed.decrypted, all, b"blocks")?;
-    report(rt, b"OpenSSL, halves that meet", agreed.met, all, b"blocks")
+) -> io::Result<()> {
+    let triples = openssl::run(rt.alloc(), engine, text, size)?;
+    let encrypted = triples.iter().filter(|triple| triple.encrypted).count();
+    report(rt, "OpenSSL, encryption", encrypted, all, "blocks")?;
+    let decrypted = triples.iter().filter(|triple| triple.decrypted).count();
+    report(rt, "OpenSSL, decryption", decrypted, all, "blocks")?;
+    let met = triples.iter().filter(|triple| triple.met).count();
+    report(rt, "OpenSSL, halves that meet", met, all, "blocks")
 }
 
-fn report_file(rt: &impl Print, text: &[u8], size: usize, all: usize) -> io::Result<()>
-    requires { size ≤ 32 }
-{
+fn run_file<R: Files + Print + Alloc>(
+    rt: &R,
+    path: &str,
+    size: usize,
+    all: usize,
+) -> io::Result<()> {
+    let text = file::read(rt, path)?;
     println!(rt; "byte tables")?;
-    report_triples(rt, cipher::TABLES, text, size, all)?;
+    report_triples(rt, Engine::Tables, &text, size, all)?;
     println!(rt; "arithmetic")?;
-    report_triples(rt, cipher::ARITHMETIC, text, size, all)?;
+    report_triples(rt, Engine::Arithmetic, &text, size, all)?;
     println!(rt; "both")?;
-    let agreed = both::run(text, size);
-    report(rt, b"the engines, equal", agreed, all, b"keys")
-}
-
-fn run_file(rt: &(impl Files + Print), path: &str, size: usize, all: usize) -> io::Result<()>
-    requires { size ≤ 32 }
-{
-    let mut buffer = [0u8; file::MOST];
-    let n = file::read(rt, path, &mut buffer)?;
-    report_file(rt, &buffer[..n], size, all)
+    let agreed = both::run(&text, size);
+    report(rt, "the engines, equal", agreed, all, "keys")
 }
 
 fn main(rt: HostRuntime) -> io::Result<()> {
     println!(rt; "byte tables")?;
-    report_examples(&rt, cipher::TABLES)?;
+    report_examples(&rt, Engine::Tables)?;
     println!(rt; "arithmetic")?;
-    report_examples(&rt, cipher::ARITHMETIC)?;
+    report_examples(&rt, Engine::Arithmetic)?;
     println!(rt; "both")?;
     report_tables(&rt)?;
     println!(rt; "keys of 16 bytes")?;

@@ -1,40 +1,24 @@
-// Triples of key, block and result, a line each: hexadecimal digits three times, a space or the line's end after each. The key has `size` bytes,
-// 16 or 32, so that a line has 67 and twice as many.
-ghost use Rattle.std.specs.Prelude.{◌+◌, ◌*◌, ◌≤◌, length};
+// The triples of a file, whose keys have `size` bytes.
+use crate::agree::Triple;
+use crate::hex::bytes;
+use crate::lines::first;
+use cipher::engine::Engine;
+use std::alloc::{AllocError, Allocator};
 
-use crate::agree::{Agreed, triple};
-use crate::hex::{block_at, key_at};
-
-// One line, counted by what agrees.
-fn run_line(engine: u8, text: &[u8], at: usize, size: usize) -> Agreed
-    requires size_bound { size ≤ 32 }
-    requires size_in_bounds { at + size * 2 + 67 ≤ length text.now }
-    ensures { (result.encrypted ≤ 1) × (result.decrypted ≤ 1) × (result.met ≤ 1) }
-{
-    let key = key_at(text, at, size);
-    let plain = block_at(text, at + size * 2 + 1);
-    let cipher = block_at(text, at + size * 2 + 34);
-    triple(engine, &key[0..size], plain, cipher)
-}
-
-pub fn run(engine: u8, text: &[u8], size: usize) -> Agreed
-    requires { size ≤ 32 }
-{
-    let mut encrypted: usize = 0;
-    let mut decrypted: usize = 0;
-    let mut met: usize = 0;
-    let line = size * 2 + 67;
-    let mut at: usize = 0;
-    while at + line <= text.len() {
-        let agreed = run_line(engine, text, at, size);
-        encrypted += agreed.encrypted;
-        decrypted += agreed.decrypted;
-        met += agreed.met;
-        at += line;
+// What agreed of each line.
+pub fn run<A: Allocator>(
+    alloc: A,
+    engine: Engine,
+    text: &[u8],
+    size: usize,
+) -> Result<Vec<Triple, A>, AllocError> {
+    let mut triples = Vec::new(alloc);
+    let mut left = text;
+    while let Some(line) = first(left, size) {
+        let keys: [u8; 32] = bytes(line.key);
+        let key = keys.get(..size).unwrap_or_default();
+        triples.push(Triple::of(engine, key, line.plain, line.cipher))?;
+        left = line.rest;
     }
-    Agreed {
-        encrypted,
-        decrypted,
-        met,
-    }
+    Ok(triples)
 }

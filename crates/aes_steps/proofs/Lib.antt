@@ -2,3 +2,4 @@
 pub mod Columns
 pub mod Words
 pub mod Halves
+pub mod Each

@@ -4,33 +4,16 @@ ghost use Rattle.std.specs.Prelude.{◌≡◌, cond, ◌++◌, ◌+◌, ◌-◌,
 ghost use Rattle.blocks.specs.Bytes.{xor_bytes};
 ghost use Rattle.fips197.specs.KeyExpansion.{word, rot_word, rcon};
 ghost use Rattle.fips197.specs.Aes.{KeyLength};
-ghost use Rattle.aes_steps.specs.Schedule.{rounds_in, Schedule};
 ghost use Rattle.aes_steps.specs.Words.{KeyWords, begun};
 
 // The bytes of a schedule.
 pub const BYTES: usize = 241;
 
 // Where the number of rounds stands.
-const ROUNDS: usize = 240;
+pub(crate) const ROUNDS: usize = 240;
 
 // The round constants, by the round of the schedule, from 0.
 const ROUND_CONSTANTS: [u8; 10] = [0x01, 0x02, 0x04, 0x08, 0x10, 0x20, 0x40, 0x80, 0x1b, 0x36];
-
-// The number of rounds.
-pub fn rounds(w: &[u8; BYTES]) -> usize
-    requires { Schedule w.now }
-    ensures { result ≡ rounds_in w.now }
-{
-    w[ROUNDS] as usize
-}
-
-// The number of rounds in the first half.
-pub fn half(w: &[u8; BYTES]) -> usize
-    requires { Schedule w.now }
-    ensures { result ≡ rounds_in w.now / 2 }
-{
-    w[ROUNDS] as usize / 2
-}
 
 // The key in front, and the number of its rounds: what there is before the first word is worked out.
 pub fn first_words(key: &[u8]) -> [u8; BYTES]
@@ -40,9 +23,7 @@ pub fn first_words(key: &[u8]) -> [u8; BYTES]
     let mut w = [0u8; BYTES];
     let end = key.len();
     w[ROUNDS] = (end / 4 + 6) as u8;
-    for i in 0..end {
-        w[i] = key[i];
-    }
+    w[..end].copy_from_slice(key);
     w
 }
 
@@ -55,8 +36,7 @@ pub fn word_at(w: &[u8; BYTES], i: usize) -> [u8; 4]
 }
 
 fn put_word(w: &mut [u8; BYTES], i: usize, x: [u8; 4])
-    requires w_len { length w.old ≡ 241 }
-    requires i_bound { i < 60 }
+    requires { i < 60 }
     ensures { w.new ≡ take (i * 4) w.old ++ x ++ drop (i * 4 + 4) w.old }
 {
     let at = i * 4;
@@ -74,7 +54,6 @@ fn xor_word(a: [u8; 4], b: [u8; 4]) -> [u8; 4]
 
 // Word i is word i - nk and what the word before has become.
 pub fn next_word(w: &mut [u8; BYTES], i: usize, nk: usize, temp: [u8; 4])
-    requires w_len { length w.old ≡ 241 }
     requires nk_le_i { nk ≤ i }
     requires i_bound { i < 60 }
     ensures { w.new ≡ take (i * 4) w.old ++ xor_bytes (word w.old (i - nk)) temp ++ drop (i * 4 + 4) w.old }

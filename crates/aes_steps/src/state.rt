@@ -3,28 +3,13 @@ ghost use Rattle.std.specs.Prelude.{◌≡◌, ◌+◌, ◌*◌, ◌%◌, ◌<�
 ghost use Rattle.std.specs.Int.Bits.{bit_xor};
 ghost use Rattle.blocks.specs.Tab.{tab};
 ghost use Rattle.fips197.specs.Gf256.{xtimes, gmul};
-ghost use Rattle.fips197.specs.State.{shift_rows, inv_shift_rows, mix as mix_of, mix_columns, inv_mix_columns, add_round_key};
-ghost use Rattle.fips197.specs.Cipher.{round_key};
-ghost use Rattle.aes_steps.specs.Schedule.{rounds_in, round_keys_in, Schedule};
+ghost use Rattle.fips197.specs.State.{shift_rows, inv_shift_rows, mix as mix_of, mix_columns, inv_mix_columns};
 
 // A byte times x.
 pub fn double(x: u8) -> u8
     ensures { result ≡ xtimes x }
 {
     (x << 1) ^ ((x >> 7) * 0x1b)
-}
-
-// Round key n added to a state.
-pub fn add_round_key(s: [u8; 16], keys: &[u8; crate::schedule::BYTES], n: usize) -> [u8; 16]
-    requires schedule { Schedule keys.now }
-    requires n_bound { n ≤ rounds_in keys.now }
-    ensures { result ≡ add_round_key s (round_key (round_keys_in keys.now) n) }
-{
-    let mut r = [0u8; 16];
-    for i in 0..16 {
-        r[i] = s[i] ^ keys[n * 16 + i];
-    }
-    r
 }
 
 // Row r goes r times so many places down the list, which is taken round: four places are a column.
@@ -63,17 +48,16 @@ pub fn mix_columns(s: [u8; 16]) -> [u8; 16]
     ensures { result ≡ mix_columns s }
 {
     let mut r = [0u8; 16];
-    let mut i: usize = 0;
-    while i < 16 {
-        let a = s[i];
-        let b = s[i + 1];
-        let c = s[i + 2];
-        let d = s[i + 3];
-        r[i] = mix(a, b, c, d);
-        r[i + 1] = mix(b, c, d, a);
-        r[i + 2] = mix(c, d, a, b);
-        r[i + 3] = mix(d, a, b, c);
-        i += 4;
+    for i in 0..4 {
+        let at = i * 4;
+        let a = s[at];
+        let b = s[at + 1];
+        let c = s[at + 2];
+        let d = s[at + 3];
+        r[at] = mix(a, b, c, d);
+        r[at + 1] = mix(b, c, d, a);
+        r[at + 2] = mix(c, d, a, b);
+        r[at + 3] = mix(d, a, b, c);
     }
     r
 }
@@ -90,17 +74,16 @@ pub fn inv_mix_columns(s: [u8; 16]) -> [u8; 16]
     ensures { result ≡ inv_mix_columns s }
 {
     let mut r = [0u8; 16];
-    let mut i: usize = 0;
-    while i < 16 {
-        let a = even(s[i], s[i + 2]);
-        let b = even(s[i + 1], s[i + 3]);
-        let c = even(s[i + 2], s[i]);
-        let d = even(s[i + 3], s[i + 1]);
-        r[i] = mix(a, b, c, d);
-        r[i + 1] = mix(b, c, d, a);
-        r[i + 2] = mix(c, d, a, b);
-        r[i + 3] = mix(d, a, b, c);
-        i += 4;
+    for i in 0..4 {
+        let at = i * 4;
+        let a = even(s[at], s[at + 2]);
+        let b = even(s[at + 1], s[at + 3]);
+        let c = even(s[at + 2], s[at]);
+        let d = even(s[at + 3], s[at + 1]);
+        r[at] = mix(a, b, c, d);
+        r[at + 1] = mix(b, c, d, a);
+        r[at + 2] = mix(c, d, a, b);
+        r[at + 3] = mix(d, a, b, c);
     }
     r
 }

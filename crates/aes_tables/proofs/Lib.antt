@@ -1,3 +1,2 @@
--- How this engine comes to FIPS 197's definitions. Lookup: the tables. Halves: what each half asks and leaves.
+-- Lookup: the tables have the S-box and its inverse at every byte.
 pub mod Lookup
-pub mod Halves

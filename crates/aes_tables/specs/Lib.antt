@@ -1,3 +1,2 @@
--- What this engine's functions ask of the tables that they are lent; its halves.
+-- What the tables hold.
 pub mod Table
-pub mod Half

@@ -1,5 +1,5 @@
 -- THE PROMISES of the exported functions: each number is that of a row, or 24 of this layer; after a refusal everything lent is zero.
-use mathlib.Core.Path.{◌≡◌, refl, ap, ◌∙◌}
+use mathlib.Core.Path.{◌≡◌, refl, ap, sym, subst, ◌∙◌}
 use mathlib.Core.Logic.{inl, inr}
 use mathlib.Core.Bool.{Bool, true, false, cond, not, ◌&&◌, ◌||◌}
 use mathlib.Core.List.{List, [], ◌∷◌}
@@ -9,14 +9,16 @@ use borrow.Author.Tests.{eqb-true}
 use Rattle.blocks.specs.Bytes.{zeros}
 use Rattle.mode.specs.Mode.{plaintext, in_words}
 use Rattle.mode.specs.declared.RunRecord.{RunRecord}
-use Rattle.mode.specs.declared.RecordAnswer.{RecordAnswer}
-use Rattle.mode.specs.declared.TagAnswer.{TagAnswer}
+use Rattle.mode.specs.Refusals.{answered, number_in}
+use Rattle.mode.specs.Demands.{Answered}
+use Rattle.mode.proofs.Demands.{demand1}
+use Rattle.mode.proofs.Numbers.{number_kept, answers}
 use Rattle.mode.specs.Aes.{aes}
 use Rattle.mode.specs.Table.{Answer, refused, given, decide}
-use Rattle.mode.specs.Calls.{outcome_by, Kind, seal, seal_rows, open_sealed, open_rows, open_rows_within, seal_run, seal_run_rows, blocks_of_run, pass_from, run_record, check_run, check_run_rows, join_two, join_two_rows, join_list, join_list_rows, close, close_rows, test, test_rows, jump_mask, jump_rows, sha1_text, sha1_rows, number, run_answer_of, record_answer_of, tag_answer_of}
+use Rattle.mode.specs.Calls.{outcome_by, Kind, seal, seal_rows, open_sealed, open_rows, open_rows_within, seal_run, seal_run_rows, blocks_of_run, pass_from, run_record, check_run, check_run_rows, join_two, join_two_rows, join_list, join_list_rows, close, close_rows, test, test_rows, jump_mask, jump_rows, sha1_text, sha1_rows, number, held_tag, record_of_answer}
 use Rattle.calls.specs.Layout.{kind_of}
 use Rattle.record_bytes.specs.Encoding.{decoded, records_of}
-use Rattle.balzenoh.specs.Exports.{lent_rows, lent, lent_record, record_part, seal_run_bytes, not_record, not_records, join_bytes, join_list_bytes, close_bytes, test_bytes}
+use Rattle.balzenoh.specs.Exports.{lent_rows, lent, lent_record, seal_run_bytes, not_record, not_records, join_bytes, join_list_bytes, close_bytes, test_bytes}
 use Rattle.balzenoh.specs.Promises.{OneOf, Promised, PromisedRun, Promises}
 
 -- ---- zeros
@@ -78,6 +80,10 @@ of_rows ks (row ∷ rows) a h = by row.1 (of_rows ks rows a h.1)
 by_rows : {A : Type 0} (ks : List ℕ) (rows : List (ℕ × Bool)) (a : A) → T (are_one_of ks rows) → OneOf ks (number (decide rows a))
 by_rows ks rows a t = of_rows ks rows a (all_tested ks rows t)
 
+-- the same of the number that the code's refusal has
+kept : {A B : Type 0} (ks : List ℕ) (f : A → B) (rows : List (ℕ × Bool)) (a : A) → Answered (decide rows a) → T (are_one_of ks rows) → OneOf ks (number_in (answered f (decide rows a)))
+kept ks f rows a h t = subst (OneOf ks) (sym (number_kept f (decide rows a) h)) (by_rows ks rows a t)
+
 -- of a number by cases
 by_cases : {A : Type 0} (ks : List ℕ) (f : A → ℕ) (b : Bool) (x y : A) → OneOf ks (f x) → OneOf ks (f y) → OneOf ks (f (cond b x y))
 by_cases ks f true x y h k = h
@@ -101,7 +107,7 @@ lent_promised ks f n bytes room h five none = promised ks (decide (lent_rows f r
 -- of a run: the ciphertext, its length and the record
 run_promised : (key iv : List ℕ) (first last : ℕ) (bytes : List ℕ) (size room : ℕ)
     → PromisedRun (0 ∷ 1 ∷ 2 ∷ 3 ∷ 4 ∷ 10 ∷ 5 ∷ []) (seal_run_bytes key iv first last bytes size room) size room
-unfolding seal_run_bytes seal_run run_answer_of
+unfolding seal_run_bytes seal_run
 run_promised key iv first last bytes size room =
     record { numbered = lent_run.numbered; zero = λ h. let x = by (ltb room 24) refl h in (x.0, (x.1, (lent_run.zero h).0)) }
   where
@@ -123,36 +129,33 @@ run_promised key iv first last bytes size room =
     refusal : OneOf numbers (number (outcome_by d text size).answer)
     refusal = (promised numbers d text size (by_rows numbers (seal_run_rows aes key iv first kind bytes size) _ tt)).numbered
 
-    lent_run : Promised numbers (lent_record (record_part (run_answer_of (outcome_by d text size))) room) room
-    lent_run = lent_promised numbers _ 24 _ room refusal tt tt
+    same : number_in (record_of_answer (outcome_by d text size).answer) ≡ number (outcome_by d text size).answer
+    same = number_kept (λ r. r) (outcome_by d text size).answer (answers (outcome_by d text size) size (demand1.of_seal_run key iv first kind bytes size))
 
-    by : (t : Bool) → ltb room 24 ≡ t → (number (lent_record (record_part (run_answer_of (outcome_by d text size))) room).answer ≡ 0 → ⊥)
+    lent_run : Promised numbers (lent_record (record_of_answer (outcome_by d text size).answer) room) room
+    lent_run = lent_promised numbers _ 24 _ room (subst (OneOf numbers) (sym same) refusal) tt tt
+
+    by : (t : Bool) → ltb room 24 ≡ t → (number (lent_record (record_of_answer (outcome_by d text size).answer) room).answer ≡ 0 → ⊥)
         → (cond t (zeros size) (outcome_by d text size).output ≡ zeros size) × (cond t 0 (outcome_by d text size).reported ≡ 0)
     by true e h = (refl, refl)
-    by false e h = zero-after d text size (call_refused _ 24 _ room e h)
+    by false e h = zero-after d text size (λ z. call_refused _ 24 _ room e h (same ∙ z))
 
 -- ---- the functions
 
-abbrev refusal_of : RecordAnswer → ℕ
-refusal_of a = a.refusal
-
-abbrev refusal_of_tag : TagAnswer → ℕ
-refusal_of_tag a = a.refusal
-
 pub promises : Promises
-unfolding seal open_sealed open_rows_within check_run join_two join_list close test jump_mask sha1_text join_bytes join_list_bytes close_bytes test_bytes record_answer_of tag_answer_of number
+unfolding seal open_sealed open_rows_within check_run join_two join_list close test jump_mask sha1_text join_bytes join_list_bytes close_bytes test_bytes number number_in answered
 promises =
     record {
       of_seal = λ t key iv message room. promised _ _ _ room (by_rows _ (seal_rows t aes key iv message room) _ tt);
       of_open = λ t key sealed room. promised _ _ _ room (by_rows _ (open_rows t aes key sealed room) _ tt);
       of_seal_run = run_promised;
-      of_check_run = λ key iv first bytes room. lent_promised _ _ 24 _ room (by_rows _ (check_run_rows aes key iv first bytes) _ tt) tt tt;
+      of_check_run = λ key iv first bytes room. lent_promised _ _ 24 _ room (kept _ (λ r. r) (check_run_rows aes key iv first bytes) _ (demand1.of_check_run key iv first bytes) tt) tt tt;
       of_join =
-          λ l r room. lent_promised _ _ 24 _ room (by_cases _ refusal_of (not_record l || not_record r) _ _ (tested _ 24 tt) (by_rows _ (join_two_rows in_words (decoded l) (decoded r)) _ tt)) tt tt;
+          λ l r room. lent_promised _ _ 24 _ room (by_cases _ number_in (not_record l || not_record r) _ _ (tested _ 24 tt) (kept _ (λ r. r) (join_two_rows in_words (decoded l) (decoded r)) _ (demand1.of_join (decoded l) (decoded r)) tt)) tt tt;
       of_join_list =
-          λ b room. lent_promised _ _ 24 _ room (by_cases _ refusal_of (not_records b) _ _ (tested _ 24 tt) (by_rows _ (join_list_rows in_words (records_of b)) _ tt)) tt tt;
+          λ b room. lent_promised _ _ 24 _ room (by_cases _ number_in (not_records b) _ _ (tested _ 24 tt) (kept _ (λ r. r) (join_list_rows in_words (records_of b)) _ (demand1.of_join_list (records_of b)) tt)) tt tt;
       of_close =
-          λ t key iv r room. lent_promised _ _ t.tag_length _ room (by_cases _ refusal_of_tag (not_record r) _ _ (tested _ 24 tt) (by_rows _ (close_rows in_words aes key iv (decoded r)) _ tt)) tt tt;
+          λ t key iv r room. lent_promised _ _ t.tag_length _ room (by_cases _ number_in (not_record r) _ _ (tested _ 24 tt) (kept _ held_tag (close_rows in_words aes key iv (decoded r)) _ (demand1.of_close t key iv (decoded r)) tt)) tt tt;
       of_test =
           λ t key iv r tag. by_cases _ (λ (n : ℕ). n) (not_record r) _ _ (tested _ 24 tt) (by_rows _ (test_rows in_words t aes key iv (decoded r) tag) _ tt);
       of_jump = λ mask distance room. promised _ _ _ room (by_rows _ (jump_rows mask distance room) _ tt);

@@ -1,13 +1,16 @@
 -- What each exported function comes to, over the outcomes of the calls.
-use Rattle.std.specs.Prelude.{◌≡◌, Bool, cond, not, ◌||◌, List, [], ◌∷◌, ℕ, ◌%◌, eqb, length, take}
+use Rattle.std.specs.Prelude.{Result, Ok, Err, ◌≡◌, Bool, cond, not, ◌||◌, List, [], ◌∷◌, ℕ, ◌%◌, eqb, length, take}
 use Rattle.blocks.specs.Bytes.{zeros}
-use Rattle.mode.specs.declared.RunAnswer.{RunAnswer}
-use Rattle.mode.specs.declared.RecordAnswer.{RecordAnswer}
-use Rattle.mode.specs.declared.TagAnswer.{TagAnswer}
+use Rattle.mode.specs.declared.RunRecord.{RunRecord}
+use Rattle.mode.specs.declared.SealedRun.{SealedRun}
+use Rattle.mode.specs.declared.refusal.Refusal.{Refusal}
+use Rattle.mode.specs.declared.refusal.Refusal.TheVariants.{OutputTooShort, RecordLength}
+use Rattle.std.specs.Result.{result_unwrap_or}
+use Rattle.mode.specs.Refusals.{number_in}
 use Rattle.mode.specs.Mode.{Finish, in_words}
 use Rattle.mode.specs.Aes.{aes}
 use Rattle.mode.specs.Table.{decide, too_short}
-use Rattle.mode.specs.Calls.{Outcome, outcome_by, seal_run, check_run, join_two, join_list, close, test, number, run_answer_of, record_answer_of, refused_record, tag_answer_of}
+use Rattle.mode.specs.Calls.{Outcome, outcome_by, seal_run, check_run, join_two, join_list, close, test, number, blank, record_of_answer, tag_of_answer}
 use Rattle.calls.specs.Layout.{kind_of}
 use Rattle.record_bytes.specs.Encoding.{encoded, decoded, records_of}
 
@@ -32,12 +35,17 @@ lent_rows refusal room needed = (refusal, not (eqb refusal 0)) ∷ (5, too_short
 unfoldable pub lent : ℕ → ℕ → List ℕ → ℕ → Outcome (List ℕ)
 lent refusal needed bytes room = outcome_by (decide (lent_rows refusal room needed) bytes) bytes room
 
-abbrev pub lent_record : RecordAnswer → ℕ → Outcome (List ℕ)
-lent_record a room = lent a.refusal 24 (encoded a.run) room
+abbrev pub lent_record : Result RunRecord Refusal → ℕ → Outcome (List ℕ)
+lent_record a room = lent (number_in a) 24 (encoded (result_unwrap_or a (blank in_words))) room
 
 -- a tag without the zeros that it is held with
-abbrev pub lent_tag : Finish → TagAnswer → ℕ → Outcome (List ℕ)
-lent_tag t a room = lent a.refusal t.tag_length (take t.tag_length a.tag) room
+abbrev pub lent_tag : Finish → Result (List ℕ) Refusal → ℕ → Outcome (List ℕ)
+lent_tag t a room = lent (number_in a) t.tag_length (take t.tag_length (result_unwrap_or a (zeros 20))) room
+
+-- a call's answer, or 5 where it has no room
+unfoldable pub with_room : {A : Type 0} → Result A Refusal → ℕ → ℕ → Result A Refusal
+with_room (Ok x) room needed = cond (too_short room needed) (Err OutputTooShort) (Ok x)
+with_room (Err r) room needed = Err r
 
 -- ---- a record that is handed in
 
@@ -49,16 +57,16 @@ unfoldable pub not_records : List ℕ → Bool
 not_records b = not (eqb (length b % 24) 0)
 
 -- JOIN
-unfoldable pub join_bytes : List ℕ → List ℕ → RecordAnswer
-join_bytes l r = cond (not_record l || not_record r) (refused_record 24) (record_answer_of (join_two in_words (decoded l) (decoded r)))
+unfoldable pub join_bytes : List ℕ → List ℕ → Result RunRecord Refusal
+join_bytes l r = cond (not_record l || not_record r) (Err RecordLength) (record_of_answer (join_two in_words (decoded l) (decoded r)))
 
 -- JOIN A LIST
-unfoldable pub join_list_bytes : List ℕ → RecordAnswer
-join_list_bytes b = cond (not_records b) (refused_record 24) (record_answer_of (join_list in_words (records_of b)))
+unfoldable pub join_list_bytes : List ℕ → Result RunRecord Refusal
+join_list_bytes b = cond (not_records b) (Err RecordLength) (record_of_answer (join_list in_words (records_of b)))
 
 -- CLOSE
-unfoldable pub close_bytes : Finish → List ℕ → List ℕ → List ℕ → TagAnswer
-close_bytes t key iv r = cond (not_record r) (record { refusal = 24; tag = zeros 20 }) (tag_answer_of (close in_words t aes key iv (decoded r)))
+unfoldable pub close_bytes : Finish → List ℕ → List ℕ → List ℕ → Result (List ℕ) Refusal
+close_bytes t key iv r = cond (not_record r) (Err RecordLength) (tag_of_answer (close in_words t aes key iv (decoded r)))
 
 -- TEST
 unfoldable pub test_bytes : Finish → List ℕ → List ℕ → List ℕ → List ℕ → ℕ
@@ -66,9 +74,14 @@ test_bytes t key iv r tag = cond (not_record r) 24 (number (test in_words t aes 
 
 -- ---- SEAL A RUN
 
--- the record's part in the answer to a run
-abbrev pub record_part : RunAnswer → RecordAnswer
-record_part a = record { refusal = a.refusal; run = a.run }
+-- the parts of a sealed run's answer: the number of answer bytes, which is 0 beside a refusal, and the record
+abbrev pub length_in : Result SealedRun Refusal → ℕ
+length_in (Ok sealed) = sealed.length
+length_in (Err r) = 0
+
+abbrev pub run_in : Result SealedRun Refusal → Result RunRecord Refusal
+run_in (Ok sealed) = Ok sealed.run
+run_in (Err r) = Err r
 
 -- the number, the reported length, the ciphertext's output and the record's
 pub record RunOutcome : Type 0 where
@@ -89,7 +102,7 @@ pub record ReportedRun (o : RunOutcome) (n reported : ℕ) (out run : List ℕ) 
 unfoldable pub seal_run_bytes : List ℕ → List ℕ → ℕ → ℕ → List ℕ → ℕ → ℕ → RunOutcome
 seal_run_bytes key iv first last bytes size room =
     let o = seal_run in_words aes key iv first (kind_of (not (eqb last 0))) bytes size in
-    let r = lent_record (record_part (run_answer_of o)) room in
+    let r = lent_record (record_of_answer o.answer) room in
     record {
       refusal = number r.answer;
       reported = cond (too_short room 24) 0 o.reported;
@@ -99,5 +112,5 @@ seal_run_bytes key iv first last bytes size room =
 
 -- ---- CHECK A RUN
 
-abbrev pub check_run_bytes : List ℕ → List ℕ → ℕ → List ℕ → RecordAnswer
-check_run_bytes key iv first bytes = record_answer_of (check_run in_words aes key iv first bytes)
+abbrev pub check_run_bytes : List ℕ → List ℕ → ℕ → List ℕ → Result RunRecord Refusal
+check_run_bytes key iv first bytes = record_of_answer (check_run in_words aes key iv first bytes)

@@ -7,6 +7,5 @@ ghost use Rattle.balzenoh.specs.Exports.{Returned};
 pub fn balzenoh_sha1(text: &[u8], out: &mut [u8]) -> u8
     ensures { Returned (sha1_text text.now (length out.old)) result out.new }
 {
-    let answer = calls::hash::sha1(text, out);
-    answer.refusal
+    crate::number::number(calls::hash::sha1(text, out))
 }

@@ -4,28 +4,25 @@ ghost use Rattle.record_list.specs.Counted.{Counted};
 ghost use Rattle.record_bytes.specs.Encoding.{decoded, records_of};
 ghost use Rattle.balzenoh.specs.Exports.{Returned, lent_record, join_bytes, join_list_bytes};
 
-use mode::{KeptAnswer, RecordAnswer, RunRecord};
+use mode::{KeptAnswer, Refusal, RunRecord};
 
-fn join_two(left: &[u8], right: &[u8]) -> RecordAnswer
+fn join_two(left: &[u8], right: &[u8]) -> Result<RunRecord, Refusal>
     ensures { result ≡ join_bytes left.now right.now }
 {
     if left.len() != 24 {
-        return mode::refused(24);
+        return Err(Refusal::RecordLength);
     }
     if right.len() != 24 {
-        return mode::refused(24);
+        return Err(Refusal::RecordLength);
     }
-    let l = record_bytes::decode(left);
-    let r = record_bytes::decode(right);
-    l.join(r)
+    record_bytes::decode(left).join(record_bytes::decode(right))
 }
 
 // JOIN two records.
 pub fn balzenoh_join(left: &[u8], right: &[u8], run: &mut [u8]) -> u8
     ensures { Returned (lent_record (join_bytes left.now right.now) (length run.old)) result run.new }
 {
-    let answer = join_two(left, right);
-    crate::record::give(answer, run)
+    crate::record::give(join_two(left, right), run)
 }
 
 // Record i of a list.
@@ -42,30 +39,24 @@ fn join_records(records: &[u8]) -> KeptAnswer
     ensures { Counted (records_of records.now) result }
 {
     let mut so_far = record_list::start();
-    let mut i: usize = 0;
-    let count = records.len() / 24;
-    while i < count {
-        let next = record_at(records, i);
-        so_far = record_list::onto(so_far, next);
-        i += 1;
+    for i in 0..records.len() / 24 {
+        so_far = record_list::onto(so_far, record_at(records, i));
     }
     so_far
 }
 
-fn join_bytes(records: &[u8]) -> RecordAnswer
+fn join_bytes(records: &[u8]) -> Result<RunRecord, Refusal>
     ensures { result ≡ join_list_bytes records.now }
 {
     if records.len() % 24 != 0 {
-        return mode::refused(24);
+        return Err(Refusal::RecordLength);
     }
-    let counted = join_records(records);
-    counted.answer
+    join_records(records).answer
 }
 
 // JOIN A LIST.
 pub fn balzenoh_join_list(records: &[u8], run: &mut [u8]) -> u8
     ensures { Returned (lent_record (join_list_bytes records.now) (length run.old)) result run.new }
 {
-    let answer = join_bytes(records);
-    crate::record::give(answer, run)
+    crate::record::give(join_bytes(records), run)
 }

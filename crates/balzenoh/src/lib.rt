@@ -7,5 +7,6 @@ pub mod join; // join.rt: join two records, join a list
 pub mod tag; // tag.rt: close, test
 pub mod mask; // mask.rt: jump
 pub mod hash; // hash.rt: SHA-1
+mod number; // number.rt: the number that a program in C gets
 mod record; // record.rt: a run record that is lent
 mod room; // room.rt: whether an answer has room

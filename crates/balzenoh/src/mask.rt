@@ -7,6 +7,5 @@ ghost use Rattle.balzenoh.specs.Exports.{Returned};
 pub fn balzenoh_jump(mask: &[u8], distance: i32, out: &mut [u8]) -> u8
     ensures { Returned (jump_mask mask.now distance (length out.old)) result out.new }
 {
-    let answer = tags::jump::jump(mask, distance, out);
-    answer.refusal
+    crate::number::number(tags::jump::jump(mask, distance, out))
 }

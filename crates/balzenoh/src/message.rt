@@ -18,9 +18,7 @@ fn seal_with(
 ) -> u8
     ensures { Reported (seal (finish_named finish) aes key.now iv.now message.now (length_of out.old)) result length.new out.new }
 {
-    let answer = calls::seal::seal(finish, key, iv, message, out);
-    *length = answer.length;
-    answer.refusal
+    crate::number::report(calls::seal::seal(finish, key, iv, message, out), length)
 }
 
 // By the cipher.
@@ -53,9 +51,7 @@ pub fn balzenoh_seal_sha1(
 fn open_with(finish: Finish, key: &[u8], sealed: &[u8], out: &mut [u8], length: &mut usize) -> u8
     ensures { Reported (open_sealed (finish_named finish) aes key.now sealed.now (length_of out.old)) result length.new out.new }
 {
-    let answer = opening::open(finish, key, sealed, out);
-    *length = answer.length;
-    answer.refusal
+    crate::number::report(opening::open(finish, key, sealed, out), length)
 }
 
 // By the cipher.

@@ -2,18 +2,19 @@
 ghost use Rattle.std.specs.Prelude.{length};
 ghost use Rattle.balzenoh.specs.Exports.{Returned, lent_record};
 
-use mode::RecordAnswer;
+use mode::{Refusal, RunRecord};
 
 // A record that a call answers, written to a lent output.
-pub fn give(answer: RecordAnswer, out: &mut [u8]) -> u8
+pub fn give(answer: Result<RunRecord, Refusal>, out: &mut [u8]) -> u8
     ensures { Returned (lent_record answer (length out.old)) result out.new }
 {
+    let room = out.len();
     blocks::block::clear(out);
-    let refusal = crate::room::refusal(answer.refusal, out.len(), 24);
-    if refusal != 0 {
-        return refusal;
+    match crate::room::with_room(answer, room, 24) {
+        Ok(run) => {
+            record_bytes::encode(run, out);
+            0
+        }
+        Err(refusal) => refusal.number(),
     }
-    let run = answer.run;
-    record_bytes::encode(run, out);
-    0
 }

@@ -1,17 +1,20 @@
 // Whether there is room for an answer.
 ghost use Rattle.std.specs.Prelude.{◌≡◌};
-ghost use Rattle.mode.specs.Table.{first_row};
-ghost use Rattle.balzenoh.specs.Exports.{lent_rows};
+ghost use Rattle.balzenoh.specs.Exports.{with_room};
 
-// The refusal of a call, or 5 where its answer has no room, or 0.
-pub fn refusal(of_call: u8, room: usize, needed: usize) -> u8
-    ensures { result ≡ first_row (lent_rows of_call room needed) }
+use mode::Refusal;
+
+// What a call answers; 5 where that has no room, which comes after the refusals of the call.
+pub fn with_room<T: Copy>(
+    answer: Result<T, Refusal>,
+    room: usize,
+    needed: usize,
+) -> Result<T, Refusal>
+    ensures { result ≡ with_room answer room needed }
 {
-    if of_call != 0 {
-        return of_call;
-    }
+    let given = answer?;
     if room < needed {
-        return 5;
+        return Err(Refusal::OutputTooShort);
     }
-    0
+    Ok(given)
 }

@@ -3,43 +3,48 @@ ghost use Rattle.std.specs.Prelude.{◌≡◌, length};
 ghost use Rattle.mode.specs.Mode.{by_cipher, by_sha1, finish_named};
 ghost use Rattle.balzenoh.specs.Exports.{Returned, lent_tag, close_bytes, test_bytes};
 
-use mode::TagAnswer;
+use mode::Refusal;
 use mode::finish::Finish;
 
 // A tag that a call answers, written to a lent output.
-fn give(finish: Finish, answer: TagAnswer, out: &mut [u8]) -> u8
+fn give(
+    finish: Finish,
+    answer: Result<[u8; mode::finish::LONGEST_TAG], Refusal>,
+    out: &mut [u8],
+) -> u8
     ensures { Returned (lent_tag (finish_named finish) answer (length out.old)) result out.new }
 {
+    let room = out.len();
     blocks::block::clear(out);
     let size = mode::finish::tag_length(finish);
-    let refusal = crate::room::refusal(answer.refusal, out.len(), size);
-    if refusal != 0 {
-        return refusal;
+    match crate::room::with_room(answer, room, size) {
+        Ok(tag) => {
+            tags::tag::put(finish, tag, out, 0);
+            0
+        }
+        Err(refusal) => refusal.number(),
     }
-    let tag = answer.tag;
-    tags::tag::put(finish, tag, out, 0);
-    0
 }
 
-fn close_record(finish: Finish, key: &[u8], iv: &[u8], run: &[u8]) -> TagAnswer
+fn close_record(
+    finish: Finish,
+    key: &[u8],
+    iv: &[u8],
+    run: &[u8],
+) -> Result<[u8; mode::finish::LONGEST_TAG], Refusal>
     ensures { result ≡ close_bytes (finish_named finish) key.now iv.now run.now }
 {
     if run.len() != 24 {
-        return TagAnswer {
-            refusal: 24,
-            tag: [0u8; mode::finish::LONGEST_TAG],
-        };
+        return Err(Refusal::RecordLength);
     }
-    let r = record_bytes::decode(run);
-    tags::record::close(finish, key, iv, r)
+    tags::record::close(finish, key, iv, record_bytes::decode(run))
 }
 
 // CLOSE a record into its tag, with either finish.
 fn close_with(finish: Finish, key: &[u8], iv: &[u8], run: &[u8], tag: &mut [u8]) -> u8
     ensures { Returned (lent_tag (finish_named finish) (close_bytes (finish_named finish) key.now iv.now run.now) (length tag.old)) result tag.new }
 {
-    let answer = close_record(finish, key, iv, run);
-    give(finish, answer, tag)
+    give(finish, close_record(finish, key, iv, run), tag)
 }
 
 // By the cipher.
@@ -61,10 +66,9 @@ fn test_with(finish: Finish, key: &[u8], iv: &[u8], run: &[u8], tag: &[u8]) -> u
     ensures { result ≡ test_bytes (finish_named finish) key.now iv.now run.now tag.now }
 {
     if run.len() != 24 {
-        return 24;
+        return Refusal::RecordLength.number();
     }
-    let r = record_bytes::decode(run);
-    tags::record::test(finish, key, iv, r, tag)
+    crate::number::number(tags::record::test(finish, key, iv, record_bytes::decode(run), tag))
 }
 
 // By the cipher.

@@ -1,7 +1,8 @@
 -- The comparison passes exactly where the lists are equal, and so does the code's, which joins all differences by `or`.
 use mathlib.Core.Path.{◌≡◌, refl, ap₂, sym, subst}
 use mathlib.Core.List.{List, [], ◌∷◌}
-use Prim.Native.Nat.{ℕ, zero, suc, ◌<◌}
+use Prim.Native.Nat.{ℕ, zero, suc, ◌+◌, ◌<◌}
+use native.Mathlib.Numerals.{add-one}
 use native.Mathlib.Omega.{arith}
 use lib.Bits.{bit_or, bit_xor, or_add_and, xor_add_and, and_le_l, and_le_r, xor_self}
 use lib.Dec.{T, eqb, eqb→eq, eqb_refl}
@@ -30,6 +31,11 @@ same-equal (x ∷ a) (y ∷ b) t =
 unfoldable pub difference : List ℕ → List ℕ → ℕ → ℕ
 difference a b zero = 0
 difference a b (suc n) = bit_or (difference a b n) (bit_xor (get_or a n 0) (get_or b n 0))
+
+-- one difference more
+pub difference_more : (a b : List ℕ) (n : ℕ) → difference a b (n + 1) ≡ bit_or (difference a b n) (bit_xor (get_or a n 0) (get_or b n 0))
+unfolding difference
+difference_more a b n = rw add-one refl
 
 or_zero : (a b : ℕ) → bit_or a b ≡ 0 → (a ≡ 0) × (b ≡ 0)
 or_zero a b h = (omega (arith, or_add_and a b, and_le_l a b, and_le_r a b), omega (arith, or_add_and a b, and_le_l a b, and_le_r a b))

@@ -1,6 +1,6 @@
 // Blocks of 16 bytes, and slices that hold them.
 ghost use Rattle.std.specs.Prelude.{◌≡◌, ◌++◌, ◌+◌, ◌≤◌, length, take, drop};
-ghost use Rattle.blocks.specs.Bytes.{xor_bytes, same, zeros};
+ghost use Rattle.blocks.specs.Bytes.{xor_bytes, zeros};
 
 // The exclusive or of two blocks.
 pub fn xor(a: [u8; 16], b: [u8; 16]) -> [u8; 16]
@@ -13,27 +13,14 @@ pub fn xor(a: [u8; 16], b: [u8; 16]) -> [u8; 16]
     r
 }
 
-// Whether two blocks are equal. All 16 bytes are read, and nothing branches on them.
-pub fn equal(a: [u8; 16], b: [u8; 16]) -> bool
-    ensures { result ≡ same a b }
-{
-    let mut difference: u8 = 0;
-    for byte in 0..16 {
-        difference = difference | (a[byte] ^ b[byte]);
-    }
-    difference == 0
-}
-
 // The block of a slice at an offset.
 pub fn load(s: &[u8], at: usize) -> [u8; 16]
     requires { at + 16 ≤ length s.now }
     ensures { result ≡ take 16 (drop at s.now) }
 {
-    let mut r = [0u8; 16];
-    for i in 0..16 {
-        r[i] = s[at + i];
-    }
-    r
+    let mut block = [0u8; 16];
+    block.copy_from_slice(&s[at..at + 16]);
+    block
 }
 
 // A block into a slice at an offset.
@@ -41,16 +28,12 @@ pub fn store(d: &mut [u8], at: usize, b: [u8; 16])
     requires { at + 16 ≤ length d.old }
     ensures { d.new ≡ take at d.old ++ b ++ drop (at + 16) d.old }
 {
-    for i in 0..16 {
-        d[at + i] = b[i];
-    }
+    d[at..at + 16].copy_from_slice(&b);
 }
 
 // A slice filled with zeros.
 pub fn clear(d: &mut [u8])
     ensures { d.new ≡ zeros (length d.old) }
 {
-    for i in 0..d.len() {
-        d[i] = 0;
-    }
+    d.fill(0);
 }

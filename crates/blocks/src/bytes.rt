@@ -7,19 +7,17 @@ pub fn put(d: &mut [u8], at: usize, s: &[u8])
     requires { at + length s.now ≤ length d.old }
     ensures { d.new ≡ take at d.old ++ s.now ++ drop (at + length s.now) d.old }
 {
-    for i in 0..s.len() {
-        d[at + i] = s[i];
-    }
+    d[at..at + s.len()].copy_from_slice(s);
 }
 
-// Whether two slices of one length are equal. All bytes are read, and nothing branches on them.
+// Whether two slices of one length are equal. All bytes are read, and nothing branches on them: `==` would stop at the first that differs.
 pub fn equal(a: &[u8], b: &[u8]) -> bool
     requires { length a.now ≡ length b.now }
     ensures { result ≡ same a.now b.now }
 {
     let mut difference: u8 = 0;
-    for byte in 0..a.len() {
-        difference = difference | (a[byte] ^ b[byte]);
+    for (x, y) in a.iter().zip(b) {
+        difference |= x ^ y;
     }
     difference == 0
 }

@@ -1,12 +1,9 @@
 -- What the functions below the calls ask and give, once nothing is refused.
 use Rattle.std.specs.Prelude.{◌≡◌, Bool, not, List, [], ◌∷◌, ◌++◌, ℕ, ◌+◌, ◌*◌, ◌/◌, ◌%◌, eqb}
 use Rattle.blocks.specs.Bytes.{zeros}
-use Rattle.mode.specs.declared.RunRecord.{RunRecord}
-use Rattle.mode.specs.Mode.{Finish, overhead, Pass, in_words}
+use Rattle.mode.specs.Mode.{Finish, overhead, Pass}
 use Rattle.mode.specs.Aes.{aes}
 use Rattle.mode.specs.Table.{not_key, not16, beyond, zero_mask}
-use Rattle.mode.specs.declared.RunAnswer.{RunAnswer}
-use Rattle.mode.specs.Calls.{blank}
 
 -- a text sealed in front of an output, of which this many bytes are left
 pub record TextSealed (p : Pass) (left : ℕ) (new mask preauthenticator : List ℕ) : Type 0 where
@@ -23,13 +20,6 @@ run_rows key iv first size =
     ∷ (4, beyond first (size / 16))
     ∷ (10, zero_mask aes key iv)
     ∷ []
-
--- a run's answer as the code gives it: with nothing refused, and with a refusal
-abbrev pub run_given : ℕ → RunRecord → RunAnswer
-run_given n r = record { refusal = 0; length = n; run = r }
-
-abbrev pub refused_run : ℕ → RunAnswer
-refused_run n = record { refusal = n; length = 0; run = blank in_words }
 
 -- the bytes of the sealed record of a message of n bytes
 abbrev pub sealed_length : Finish → ℕ → ℕ

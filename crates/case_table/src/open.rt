@@ -1,103 +1,100 @@
-// Lines that open a record: one of noise, one that is given in digits, a sealed message, and blocks that a middle run sealed.
-ghost use Rattle.std.specs.Prelude.{◌≤◌};
-
-use crate::keys::keys;
+// Lines that open a record: one of noise, one that is given in digits, a sealed message, and blocks that a middle run sealed. Their first column,
+// the length of a key, was read before.
+use crate::keys::Keys;
 use crate::sealed::{of_blocks, of_message};
-use case_text::bytes::{flip_last, front, front_mut, one_if};
-use case_text::columns::{ROOM, SPELT, TEXT};
-use case_text::random::noise;
-use case_text::words::{byte, number, spelt};
-use case_tools::call::opened_into;
+use case_records::answer::outcome;
+use case_text::bytes::flip_last;
+use case_text::columns::{Columns, KEY, ROOM, SPELT, TEXT};
+use case_text::hex::bytes;
+use case_text::random;
+use case_tools::open::opens;
+use mode::Refusal;
 use mode::finish::Finish;
 
-// A record opened into `room` bytes: a refusal, or the message where the refusal is 0.
-fn opens(
-    finish: Finish,
-    key: &[u8],
-    sealed: &[u8],
-    room: usize,
-    refusal: u8,
-    message: &[u8],
-) -> usize
-    ensures { result ≤ 1 }
-{
-    let mut out = [0u8; ROOM];
-    let lent = front_mut(&mut out, room);
-    if refusal != 0 {
-        return one_if(opened_into(finish, key, sealed, lent, refusal, b""));
-    }
-    one_if(opened_into(finish, key, sealed, lent, 0, message))
-}
-
 // noise KEY RECORD ROOM REFUSAL: bytes that no tag fits, behind the IV
-pub fn noisy(finish: Finish, key: &[u8], iv: [u8; 16], line: &[u8]) -> usize
-    ensures { result ≤ 1 }
-{
-    let mut bytes = [0u8; ROOM];
-    noise(&mut bytes);
-    blocks::block::store(&mut bytes, 0, iv);
-    let sealed = front(&bytes, number(line, 2));
-    opens(finish, key, sealed, number(line, 3), byte(line, 4), b"")
+pub fn noise(finish: Finish, key: &[u8], iv: [u8; 16], mut columns: Columns) -> Option<bool> {
+    let size = columns.length(ROOM)?;
+    let room = columns.length(ROOM)?;
+    let outcome = outcome(&mut columns)?;
+    columns.end()?;
+    let mut sealed = [0u8; ROOM];
+    random::noise(&mut sealed);
+    blocks::block::store(&mut sealed, 0, iv);
+    let out = &mut [0u8; ROOM][..room];
+    Some(opens(finish, key, &sealed[..size], out, outcome.map(|_| &b""[..])))
 }
 
 // record KEY RECORD FLIPPED ROOM REFUSAL DIGITS: the first RECORD bytes of those that the digits spell, with bits of the last one flipped
-pub fn given(finish: Finish, key: &[u8], line: &[u8]) -> usize
-    ensures { result ≤ 1 }
-{
-    let mut bytes = [0u8; SPELT];
-    spelt(line, 6, &mut bytes);
-    let size = number(line, 2);
-    flip_last(&mut bytes, size, byte(line, 3));
-    let sealed = front(&bytes, size);
-    opens(finish, key, sealed, number(line, 4), byte(line, 5), b"")
+pub fn given(finish: Finish, key: &[u8], mut columns: Columns) -> Option<bool> {
+    let size = columns.length(ROOM)?;
+    let flipped = columns.byte()?;
+    let room = columns.length(ROOM)?;
+    let outcome = outcome(&mut columns)?;
+    let mut spelt: [u8; SPELT] = bytes(columns.digits()?);
+    columns.end()?;
+    flip_last(&mut spelt, size, flipped);
+    let sealed = spelt.get(..size).unwrap_or(&spelt);
+    let out = &mut [0u8; ROOM][..room];
+    Some(opens(finish, key, sealed, out, outcome.map(|_| &b""[..])))
 }
 
 // ---- what was sealed before
 
-// What was sealed, with bits of the last byte flipped, is opened under another key.
-fn again(finish: Finish, sealed: &mut [u8], size: usize, message: &[u8], line: &[u8]) -> usize
-    ensures { result ≤ 1 }
-{
-    if sealed.len() < size {
-        return 0;
+// How a record is opened: under which key, with which bits of its last byte flipped, and what that gives. MESSAGE is the length of a message.
+#[derive(Clone, Copy, Debug)]
+struct Again {
+    opener: usize,
+    flipped: u8,
+    message: usize,
+    room: usize,
+    outcome: Result<(), Refusal>,
+}
+
+impl Again {
+    // OPENER FLIPPED MESSAGE ROOM REFUSAL
+    fn of(columns: &mut Columns) -> Option<Again> {
+        Some(Again {
+            opener: columns.length(KEY)?,
+            flipped: columns.byte()?,
+            message: columns.length(TEXT)?,
+            room: columns.length(ROOM)?,
+            outcome: outcome(columns)?,
+        })
     }
-    flip_last(sealed, size, byte(line, 3));
-    let keys = keys(false);
-    opens(
-        finish,
-        front(&keys, number(line, 2)),
-        front(sealed, size),
-        number(line, 5),
-        byte(line, 6),
-        message,
-    )
+
+    // Whether opening the record gives the message, or the refusal.
+    fn opens(&self, finish: Finish, sealed: &mut [u8], message: &[u8]) -> Option<bool> {
+        if let Some(last) = sealed.last_mut() {
+            *last ^= self.flipped;
+        }
+        let keys = Keys::Paper.bytes();
+        let key = keys.get(..self.opener)?;
+        let mut output = [0u8; ROOM];
+        let out = output.get_mut(..self.room)?;
+        Some(opens(finish, key, sealed, out, self.outcome.map(|_| message)))
+    }
 }
 
 // opened SEALER OPENER FLIPPED MESSAGE ROOM REFUSAL: a message sealed under a key, and opened under one
-pub fn message(finish: Finish, key: &[u8], line: &[u8]) -> usize
-    ensures { result ≤ 1 }
-{
+pub fn message(finish: Finish, key: &[u8], mut columns: Columns) -> Option<bool> {
+    let again = Again::of(&mut columns)?;
+    columns.end()?;
     let mut text = [0u8; TEXT];
-    noise(&mut text);
-    let mut sealed = [0u8; ROOM];
-    let message = front(&text, number(line, 4));
-    let size = of_message(finish, key, message, &mut sealed);
-    again(finish, &mut sealed, size, message, line)
+    random::noise(&mut text);
+    let message = text.get(..again.message)?;
+    let mut output = [0u8; ROOM];
+    let sealed = of_message(finish, key, message, &mut output)?;
+    again.opens(finish, sealed, message)
 }
 
 // blocks SEALER OPENER FLIPPED MESSAGE ROOM REFUSAL DIGITS: whole blocks sealed as they are. The message is the first MESSAGE bytes of them.
-pub fn blocks(finish: Finish, key: &[u8], line: &[u8]) -> usize
-    ensures { result ≤ 1 }
-{
-    let mut text = [0u8; SPELT];
-    let long = spelt(line, 7, &mut text);
-    let mut sealed = [0u8; 160];
-    let size = of_blocks(finish, key, front(&text, long), &mut sealed);
-    again(
-        finish,
-        &mut sealed,
-        size,
-        front(&text, number(line, 4)),
-        line,
-    )
+pub fn blocks(finish: Finish, key: &[u8], mut columns: Columns) -> Option<bool> {
+    let again = Again::of(&mut columns)?;
+    let digits = columns.digits()?;
+    columns.end()?;
+    let spelt: [u8; SPELT] = bytes(digits);
+    let text = &spelt[..digits.len() / 2];
+    let mut output = [0u8; 160];
+    let sealed = of_blocks(finish, key, text, &mut output)?;
+    again.opens(finish, sealed, spelt.get(..again.message).unwrap_or(&spelt))
 }

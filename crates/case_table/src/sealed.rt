@@ -1,60 +1,46 @@
-// Records that the library seals, under the paper's IV. The answer is the record's length. Where a call does not give what it should, it
-// is one that no output has.
-ghost use Rattle.std.specs.Prelude.{◌+◌, ◌≤◌, length};
-
-use case_records::answer::{NO_ANSWER, of_run, written};
+// Records that the library seals, under the paper's IV. The answer is the record, at the front of an output. Where a call does not give what it
+// should there is none.
+use case_records::answer::written;
+use case_records::keyed::Keyed;
 use case_text::paper;
-use case_text::words::NO_NUMBER;
-use case_tools::call::{run_into, sealed_into, tag_length};
-use mode::TagAnswer;
-use mode::finish::Finish;
+use mode::finish::{Finish, tag_length};
 
 // A message sealed.
-pub fn of_message(finish: Finish, key: &[u8], message: &[u8], out: &mut [u8]) -> usize {
+pub fn of_message<'a>(
+    finish: Finish,
+    key: &[u8],
+    message: &[u8],
+    out: &'a mut [u8],
+) -> Option<&'a mut [u8]> {
     let size = message.len() / 16 * 16 + 32 + tag_length(finish);
     let iv = paper::iv();
-    if sealed_into(finish, key, &iv, message, out, 0, size) {
-        size
+    let given = Keyed { key, iv: &iv }.seal(finish, message, out);
+    if written(given, Ok(()), size, out) {
+        out.get_mut(..size)
     } else {
-        NO_NUMBER
+        None
     }
-}
-
-// Whole blocks through a middle run, and the tag of its record.
-fn closed(finish: Finish, key: &[u8], text: &[u8], out: &mut [u8]) -> TagAnswer {
-    let iv = paper::iv();
-    let a = run_into(key, &iv, 0, false, text, out);
-    if !written(of_run(a), 0, text.len(), out) {
-        return TagAnswer {
-            refusal: NO_ANSWER,
-            tag: [0u8; mode::finish::LONGEST_TAG],
-        };
-    }
-    tags::record::close(finish, key, &iv, a.run)
-}
-
-// The first `long` bytes of a tag that is held.
-fn put(out: &mut [u8], at: usize, tag: [u8; mode::finish::LONGEST_TAG], long: usize)
-    requires long_bound { long ≤ 20 }
-    requires long_in_bounds { at + long ≤ length out.old }
-{
-    blocks::bytes::put(out, at, &tag[0..long]);
 }
 
 // The IV, the ciphertext of whole blocks with no padding, and the tag.
-pub fn of_blocks(finish: Finish, key: &[u8], text: &[u8], out: &mut [u8]) -> usize {
-    let long = tag_length(finish);
-    let stop = text.len() + 16;
-    let size = stop + long;
-    if out.len() < size {
-        return NO_NUMBER;
+pub fn of_blocks<'a>(
+    finish: Finish,
+    key: &[u8],
+    text: &[u8],
+    out: &'a mut [u8],
+) -> Option<&'a mut [u8]> {
+    let iv = paper::iv();
+    let keyed = Keyed { key, iv: &iv };
+    let (front, rest) = out.split_at_mut_checked(16)?;
+    front.copy_from_slice(&iv);
+    let run = keyed.seal_run(0, false, text, rest).ok()?;
+    if !written(Ok(run.length), Ok(()), text.len(), rest) {
+        return None;
     }
-    blocks::block::store(out, 0, paper::iv());
-    let a = closed(finish, key, text, &mut out[16..]);
-    if a.refusal != 0 {
-        return NO_NUMBER;
-    }
-    let tag = a.tag;
-    put(out, stop, tag, long);
-    size
+    let tag = keyed.close(finish, run.run).ok()?;
+    let tag = tag.get(..tag_length(finish))?;
+    rest.get_mut(text.len()..)?
+        .get_mut(..tag.len())?
+        .copy_from_slice(tag);
+    out.get_mut(..16 + text.len() + tag.len())
 }

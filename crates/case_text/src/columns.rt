@@ -1,11 +1,10 @@
-// The columns of a case, and whether a line has those of a call.
-use crate::bytes::starts_with;
-use crate::words::{is_negative, magnitude, number, word};
+// The columns of a line: words, which spaces part, and the numbers that they spell.
+ghost use Rattle.std.specs.Prelude.{◌≤◌, length, IfSome};
 
 // The most bytes of a key, an IV, a message or a run, which has 2,048 blocks, and a lent output, which has room for a record of as many.
 pub const KEY: usize = 64;
 
-const IV: usize = 32;
+pub const IV: usize = 32;
 
 pub const TEXT: usize = 32768;
 
@@ -14,62 +13,105 @@ pub const ROOM: usize = 32816;
 // The most bytes that a line spells in digits.
 pub const SPELT: usize = 96;
 
-// The most that a block number or a count may be.
-const NUMBER: usize = 0xFFFFFFFF;
+// The most that a byte in a column may be.
+const BYTE: usize = 254;
 
-// The most that a column of a kind may hold: k the length of a key, i of an IV, t of a text, r of an output; n a block number or a count; b a byte, as a
-// refusal; s a distance; d digits.
-fn most(kind: u8) -> usize {
-    match kind {
-        b'k' => KEY,
-        b'i' => IV,
-        b't' => TEXT,
-        b'r' => ROOM,
-        b'n' => NUMBER,
-        b'b' => 254,
-        b's' => 0x7FFFFFFF,
-        b'd' => SPELT * 2,
-        _ => 0,
-    }
+// The number that digits spell.
+fn number(digits: &[u8]) -> Option<usize> {
+    digits.iter().try_fold(0usize, |number, digit| {
+        let digit = char::from(*digit).to_digit(10)?;
+        number.checked_mul(10)?.checked_add(digit as usize)
+    })
 }
 
-// The blocks of a distance. One that goes back may have one more.
-fn blocks(line: &[u8], n: usize) -> usize {
-    let r = magnitude(line, n);
-    if is_negative(line, n) {
-        if 0 < r {
-            return r - 1;
+// A line up to its first space, and from there on.
+fn split_word(line: &[u8]) -> (&[u8], &[u8])
+    ensures { length result.0.now ≤ length line.now }
+{
+    let size = line
+        .iter()
+        .position(|byte| *byte == b' ')
+        .unwrap_or(line.len());
+    line.split_at(size)
+}
+
+// The part of a line that is still to be read.
+#[derive(Clone, Copy, Debug)]
+pub struct Columns<'a> {
+    rest: &'a [u8],
+}
+
+impl<'a> Columns<'a> {
+    pub fn of(line: &'a [u8]) -> Columns<'a> {
+        Columns { rest: line }
+    }
+
+    // The name that a line starts with, and the columns behind it.
+    pub fn of_call(line: &'a [u8]) -> (&'a [u8], Columns<'a>) {
+        let (name, rest) = split_word(line);
+        (name, Columns { rest })
+    }
+
+    // The line from its next word on.
+    fn at_word(&self) -> Option<&'a [u8]> {
+        let from = self.rest.iter().position(|byte| *byte != b' ')?;
+        Some(&self.rest[from..])
+    }
+
+    // Each of these takes the next word. Where there is none, or one that does not fit, there is no answer.
+
+    pub fn word(&mut self) -> Option<&'a [u8]> {
+        let (word, rest) = split_word(self.at_word()?);
+        self.rest = rest;
+        Some(word)
+    }
+
+    // A number of bytes.
+    pub fn length(&mut self, most: usize) -> Option<usize>
+        ensures { IfSome result (λ length. length ≤ most) }
+    {
+        let length = number(self.word()?)?;
+        if length <= most { Some(length) } else { None }
+    }
+
+    // A block number or a count.
+    pub fn number(&mut self) -> Option<u32> {
+        u32::try_from(number(self.word()?)?).ok()
+    }
+
+    // A byte, as a refusal or bits to be flipped.
+    pub fn byte(&mut self) -> Option<u8> {
+        u8::try_from(self.length(BYTE)?).ok()
+    }
+
+    // A distance, which has a minus where it goes back.
+    pub fn distance(&mut self) -> Option<i32> {
+        let word = self.word()?;
+        let Some(digits) = word.strip_prefix(b"-") else {
+            return i32::try_from(number(word)?).ok();
+        };
+        let back = i64::try_from(number(digits)?).ok()?;
+        i32::try_from(back.checked_neg()?).ok()
+    }
+
+    // Digits of at most 96 bytes, together with what stands behind them.
+    pub fn digits(&mut self) -> Option<&'a [u8]>
+        ensures { IfSome result (λ digits. length digits.now ≤ 192) }
+    {
+        let line = self.at_word()?;
+        if SPELT * 2 < line.len() {
+            return None;
+        }
+        let (digits, rest) = split_word(line);
+        self.rest = rest;
+        Some(digits)
+    }
+
+    // That no word is left.
+    pub fn end(&self) -> Option<()> {
+        match self.at_word() {
+            None => Some(()),
+            Some(_) => None,
         }
     }
-    r
-}
-
-// The number in a column. Of digits it is how many there are, with what stands behind them.
-fn held(line: &[u8], n: usize, kind: u8) -> usize {
-    match kind {
-        b's' => blocks(line, n),
-        b'd' => line.len() - word(line, n),
-        _ => number(line, n),
-    }
-}
-
-// Whether each column holds at most what it may.
-fn fit(line: &[u8], kinds: &[u8]) -> bool {
-    let mut i: usize = 0;
-    while i < kinds.len() {
-        if most(kinds[i]) < held(line, i + 1, kinds[i]) {
-            return false;
-        }
-        i += 1;
-    }
-    true
-}
-
-// Whether a line starts with the name of a call and a space, and has columns of these kinds and no other.
-pub fn is_call(line: &[u8], name: &[u8], kinds: &[u8]) -> bool {
-    let n = kinds.len();
-    starts_with(line, name)
-        && word(line, n) < line.len()
-        && word(line, n + 1) == line.len()
-        && fit(line, kinds)
 }

@@ -1,5 +1,5 @@
 // A data file.
-ghost use Rattle.std.specs.Prelude.{◌≡◌, ◌≤◌, length, IfOk};
+ghost use Rattle.std.specs.Prelude.{◌≤◌, IfOk, vec_len};
 
 use std::fs::File;
 use std::io;
@@ -9,27 +9,14 @@ use std::rt::Files;
 // The most bytes of a data file that a program here reads.
 pub const MOST: usize = 65536;
 
-// Reads until a buffer is full or the input ends, and gives how many bytes were read. After an error the buffer may hold some of them.
-pub fn read_full(input: &mut impl Read, buffer: &mut [u8]) -> io::Result<usize>
-    ensures count { IfOk result (λ n. n ≤ length buffer.new) }
-    ensures buffer { length buffer.new ≡ length buffer.old }
+// The bytes of a file, without those beyond the most. Where there is no such file it is an error.
+pub fn read<R: Files + Alloc>(rt: &R, path: &str) -> io::Result<Vec<u8, R::A>>
+    ensures { IfOk result (λ bytes. vec_len bytes ≤ 65536) }
 {
-    let mut done: usize = 0;
-    while done < buffer.len() {
-        let n = input.read(&mut buffer[done..])?;
-        if n == 0 {
-            break;
-        }
-        done += n;
-    }
-    Ok(done)
-}
-
-// Reads a file into a buffer, and gives how many bytes it has. Where there is no such file it is an error.
-pub fn read(rt: &impl Files, path: &str, buffer: &mut [u8]) -> io::Result<usize>
-    ensures count { IfOk result (λ n. n ≤ length buffer.new) }
-    ensures buffer { length buffer.new ≡ length buffer.old }
-{
-    let mut file = File::open(rt, path)?;
-    read_full(&mut file, buffer)
+    let mut bytes = Vec::new(rt.alloc());
+    File::open(rt, path)?
+        .take(MOST as u64)
+        .read_to_end(&mut bytes)?;
+    bytes.truncate(MOST);
+    Ok(bytes)
 }

@@ -1,8 +1,8 @@
 // Bytes from hexadecimal digits, of either case.
-ghost use Rattle.std.specs.Prelude.{◌+◌, ◌*◌, ◌<◌, ◌≤◌, length};
+ghost use Rattle.std.specs.Prelude.{◌<◌};
 
 // What a digit stands for. What is no digit counts as 0.
-fn digit(c: u8) -> u8
+pub fn digit(c: u8) -> u8
     ensures { result < 16 }
 {
     match c {
@@ -13,26 +13,25 @@ fn digit(c: u8) -> u8
     }
 }
 
-// The n bytes that the digits of a text spell, from an offset, to the front of an output.
-pub fn bytes_at(text: &[u8], at: usize, n: usize, out: &mut [u8])
-    requires n_in_bounds { at + n * 2 ≤ length text.now }
-    requires n_in_bounds_2 { n ≤ length out.old }
+// The bytes that digits spell, two digits each, as many as there is room for. Behind them stand zeros. What a digit stands for is handed in.
+pub fn bytes_by<const N: usize, F: Fn(u8) -> u8>(digits: &[u8], digit: F) -> [u8; N]
+    requires { F.IsAlwaysCallable digit }
 {
-    for i in 0..n {
-        out[i] = digit(text[at + i * 2]) * 16 + digit(text[at + i * 2 + 1]);
+    let mut bytes = [0u8; N];
+    for (byte, pair) in bytes.iter_mut().zip(digits.chunks_exact(2)) {
+        if let [high, low] = pair {
+            *byte = (digit(*high) << 4) | digit(*low);
+        }
     }
+    bytes
 }
 
-// The block that 32 digits of a text spell, from an offset.
-pub fn block_at(text: &[u8], at: usize) -> [u8; 16]
-    requires { at + 32 ≤ length text.now }
-{
-    let mut r = [0u8; 16];
-    bytes_at(text, at, 16, &mut r);
-    r
+// The same of digits of either case.
+pub fn bytes<const N: usize>(digits: &[u8]) -> [u8; N] {
+    bytes_by(digits, digit)
 }
 
 // The block that 32 digits spell.
-pub fn block(text: &[u8; 32]) -> [u8; 16] {
-    block_at(text, 0)
+pub fn block(digits: &[u8; 32]) -> [u8; 16] {
+    bytes(digits)
 }

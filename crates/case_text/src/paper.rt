@@ -1,5 +1,5 @@
 // The key and the IV of the mode's paper, and a key of 32 bytes that starts with that key.
-use crate::hex::{block, bytes_at};
+use crate::hex::{block, bytes};
 
 pub fn key() -> [u8; 16] {
     block(b"000102030405060708090A0B0C0D0E0F")
@@ -10,12 +10,5 @@ pub fn iv() -> [u8; 16] {
 }
 
 pub fn long_key() -> [u8; 32] {
-    let mut r = [0u8; 32];
-    bytes_at(
-        b"000102030405060708090A0B0C0D0E0F101112131415161718191A1B1C1D1E1F",
-        0,
-        32,
-        &mut r,
-    );
-    r
+    bytes(b"000102030405060708090A0B0C0D0E0F101112131415161718191A1B1C1D1E1F")
 }

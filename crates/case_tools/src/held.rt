@@ -1,39 +1,34 @@
 // Runs and tags held to values that are known.
 ghost use Rattle.std.specs.Prelude.{◌≤◌};
 
-use crate::call::run_into;
-use case_records::answer::{answered, gives_record, gives_tag, of_run, same_record};
-use case_text::bytes::one_if;
+use case_records::answer::{answered, tagged};
+use case_records::keyed::Keyed;
+use case_text::agreed;
 use mode::RunRecord;
 use mode::finish::Finish;
 
-// A middle run gives the ciphertext and the record.
-pub fn seals(
-    key: &[u8],
-    iv: &[u8],
-    text: &[u8],
-    cipher: &[u8],
-    run: RunRecord,
-    out: &mut [u8],
-) -> usize
+// How many are as they should be, of the ciphertext and the record that a middle run gives.
+pub fn seals(keyed: Keyed, text: &[u8], cipher: &[u8], run: RunRecord, out: &mut [u8]) -> usize
     ensures { result ≤ 2 }
 {
-    let a = run_into(key, iv, run.first, false, text, out);
-    one_if(answered(of_run(a), 0, cipher, out)) + one_if((a.refusal == 0) & same_record(a.run, run))
+    let given = keyed.seal_run(run.first, false, text, out);
+    agreed(&[
+        answered(given.map(|sealed| sealed.length), Ok(cipher), out),
+        given.map(|sealed| sealed.run) == Ok(run),
+    ])
 }
 
 // Checking the ciphertext gives the record.
-pub fn checks(key: &[u8], iv: &[u8], cipher: &[u8], run: RunRecord) -> usize
-    ensures { result ≤ 1 }
-{
-    one_if(gives_record(calls::run::check_run(key, iv, run.first, cipher), run))
+pub fn checks(keyed: Keyed, cipher: &[u8], run: RunRecord) -> bool {
+    keyed.check_run(run.first, cipher) == Ok(run)
 }
 
-// Closing gives the tag, and testing the tag passes.
-pub fn tag_is(finish: Finish, key: &[u8], iv: &[u8], run: RunRecord, tag: &[u8]) -> usize
+// How many are as they should be, of closing, which gives the tag, and testing the tag, which passes.
+pub fn tag_is(finish: Finish, keyed: Keyed, run: RunRecord, tag: &[u8]) -> usize
     ensures { result ≤ 2 }
 {
-    let closed = tags::record::close(finish, key, iv, run);
-    let tested = tags::record::test(finish, key, iv, run, tag);
-    one_if(gives_tag(closed, tag)) + one_if(tested == 0)
+    agreed(&[
+        tagged(keyed.close(finish, run), Ok(tag)),
+        keyed.test(finish, run, tag).is_ok(),
+    ])
 }

@@ -1,157 +1,125 @@
 // Records that a second program sealed (docs/CASES.md), a line each: key, IV, message and record in hexadecimal digits, a space after each but the
 // last. Where the message is empty no digits stand for it. The IV is taken from the record, which starts with it.
-ghost use Rattle.std.specs.Prelude.{◌≤◌};
-
-use crate::call::{opened_into, tag_length};
+use crate::open;
 use case_records::answer::answered;
-use case_text::bytes::{front, front_mut, one_if};
-use case_text::file;
-use case_text::random::noise;
-use case_text::words::{line_end, spelt, word};
-use mode::finish::Finish;
+use case_records::keyed::Keyed;
+use case_text::columns::Columns;
+use case_text::hex::bytes;
+use case_text::{file, report};
+use mode::Refusal;
+use mode::finish::{Finish, tag_length};
 use std::io;
 use std::rt::Files;
 
 // The most bytes of a record.
 const SEALED: usize = 192;
 
-// How many lines agreed, by what was tried: opened into a long output, and into one of the message's length.
-#[derive(Clone, Copy)]
-pub struct Agreed {
-    pub sealed: usize,
-    pub opened: usize,
-    pub exact: usize,
-    pub tested: usize,
-}
-
 // ---- one record
 
 // Sealing the message gives the record.
-pub fn seals(finish: Finish, key: &[u8], message: &[u8], sealed: &[u8]) -> usize
-    ensures { result ≤ 1 }
-{
+fn seals(finish: Finish, key: &[u8], message: &[u8], sealed: &[u8]) -> bool {
+    let iv = sealed.get(..16).unwrap_or(sealed);
     let mut out = [0u8; SEALED];
-    noise(&mut out);
-    let w = calls::seal::seal(finish, key, front(sealed, 16), message, &mut out);
-    one_if(answered(w, 0, sealed, &out))
+    let given = Keyed { key, iv }.seal(finish, message, &mut out);
+    answered(given, Ok(sealed), &out)
 }
 
-// Opening the record gives the message, or a refusal where the message is none.
-pub fn opens(finish: Finish, key: &[u8], sealed: &[u8], refusal: u8, message: &[u8]) -> usize
-    ensures { result ≤ 1 }
-{
-    let mut out = [0u8; SEALED];
-    one_if(opened_into(finish, key, sealed, &mut out, refusal, message))
+// Opening the record gives the message, or a refusal.
+pub fn opens(finish: Finish, key: &[u8], sealed: &[u8], expected: Result<&[u8], Refusal>) -> bool {
+    open::opens(finish, key, sealed, &mut [0u8; SEALED], expected)
 }
 
 // Opening the record into an output of the message's length gives the message.
-pub fn opens_exactly(finish: Finish, key: &[u8], sealed: &[u8], message: &[u8]) -> usize
-    ensures { result ≤ 1 }
-{
-    let mut room = [0u8; SEALED];
-    let out = front_mut(&mut room, message.len());
-    one_if(opened_into(finish, key, sealed, out, 0, message))
-}
-
-// Testing a tag against the record of the checked ciphertext gives a refusal, or 0.
-fn passes(finish: Finish, key: &[u8], iv: &[u8], text: &[u8], tag: &[u8], refusal: u8) -> bool {
-    let checked = calls::run::check_run(key, iv, 0, text);
-    let tested = tags::record::test(finish, key, iv, checked.run, tag);
-    (checked.refusal == 0) & (tested == refusal)
-}
-
-// The same of a sealed record's own parts.
-pub fn tests(finish: Finish, key: &[u8], sealed: &[u8], refusal: u8) -> usize
-    ensures { result ≤ 1 }
-{
-    if sealed.len() < 36 {
-        return 0;
+fn opens_exactly(finish: Finish, key: &[u8], sealed: &[u8], message: &[u8]) -> bool {
+    match [0u8; SEALED].get_mut(..message.len()) {
+        Some(out) => open::opens(finish, key, sealed, out, Ok(message)),
+        None => false,
     }
-    let stop = sealed.len() - tag_length(finish);
-    one_if(passes(
-        finish,
-        key,
-        &sealed[0..16],
-        &sealed[16..stop],
-        &sealed[stop..],
-        refusal,
-    ))
 }
 
-fn compared(finish: Finish, key: &[u8], message: &[u8], sealed: &[u8]) -> Agreed
-    ensures { (result.sealed ≤ 1) × (result.opened ≤ 1) × (result.exact ≤ 1) × (result.tested ≤ 1) }
-{
-    Agreed {
-        sealed: seals(finish, key, message, sealed),
-        opened: opens(finish, key, sealed, 0, message),
-        exact: opens_exactly(finish, key, sealed, message),
-        tested: tests(finish, key, sealed, 0),
+// Testing a sealed record's tag against the record of its ciphertext, once that is checked: it passes, or is refused. A record without a
+// block is neither.
+pub fn tests(finish: Finish, key: &[u8], sealed: &[u8], expected: Result<(), Refusal>) -> bool {
+    if sealed.len() < 36 {
+        return false;
+    }
+    let (iv, rest) = sealed.split_at(16);
+    let Some(stop) = rest.len().checked_sub(tag_length(finish)) else {
+        return false;
+    };
+    let (text, tag) = rest.split_at(stop);
+    let keyed = Keyed { key, iv };
+    match keyed.check_run(0, text) {
+        Ok(run) => keyed.test(finish, run, tag) == expected,
+        Err(_) => false,
+    }
+}
+
+// What agreed of one record: sealed, opened into a long output, opened into one of the message's length, and tested.
+#[derive(Clone, Copy, Debug, PartialEq, Eq)]
+pub struct Compared {
+    pub sealed: bool,
+    pub opened: bool,
+    pub exact: bool,
+    pub tested: bool,
+}
+
+impl Compared {
+    pub fn of(finish: Finish, key: &[u8], message: &[u8], sealed: &[u8]) -> Compared {
+        Compared {
+            sealed: seals(finish, key, message, sealed),
+            opened: opens(finish, key, sealed, Ok(message)),
+            exact: opens_exactly(finish, key, sealed, message),
+            tested: tests(finish, key, sealed, Ok(())),
+        }
     }
 }
 
 // ---- the lines of a file
 
-fn has_message(line: &[u8]) -> bool {
-    word(line, 3) < line.len()
+// The front of room that digits fill. Where they have not enough room it is empty.
+fn filled<'a, const N: usize>(room: &'a [u8; N], digits: &[u8]) -> &'a [u8] {
+    room.get(..digits.len() / 2).unwrap_or_default()
 }
 
-fn message(line: &[u8], out: &mut [u8]) -> usize {
-    if has_message(line) {
-        return spelt(line, 2, out);
-    }
-    0
-}
-
-fn record(line: &[u8], out: &mut [u8]) -> usize {
-    if has_message(line) {
-        return spelt(line, 3, out);
-    }
-    spelt(line, 2, out)
-}
-
-fn run_line(finish: Finish, line: &[u8]) -> Agreed
-    ensures { (result.sealed ≤ 1) × (result.opened ≤ 1) × (result.exact ≤ 1) × (result.tested ≤ 1) }
-{
-    let mut keys = [0u8; 32];
-    let key = spelt(line, 0, &mut keys);
-    let mut text = [0u8; SEALED];
-    let long = message(line, &mut text);
-    let mut sealed = [0u8; SEALED];
-    let size = record(line, &mut sealed);
-    compared(
+fn of_line(finish: Finish, line: &[u8]) -> Compared {
+    let mut columns = Columns::of(line);
+    let mut next = || columns.word().unwrap_or_default();
+    let key = next();
+    next();
+    let third = next();
+    let fourth = next();
+    let (message, sealed) = if fourth.is_empty() {
+        (fourth, third)
+    } else {
+        (third, fourth)
+    };
+    Compared::of(
         finish,
-        front(&keys, key),
-        front(&text, long),
-        front(&sealed, size),
+        filled(&bytes::<32>(key), key),
+        filled(&bytes::<SEALED>(message), message),
+        filled(&bytes::<SEALED>(sealed), sealed),
     )
 }
 
-pub fn run(finish: Finish, text: &[u8]) -> Agreed {
-    let mut sealed: usize = 0;
-    let mut opened: usize = 0;
-    let mut exact: usize = 0;
-    let mut tested: usize = 0;
-    let mut at: usize = 0;
-    while at < text.len() {
-        let end = line_end(text, at);
-        let one = run_line(finish, &text[at..end]);
-        sealed += one.sealed;
-        opened += one.opened;
-        exact += one.exact;
-        tested += one.tested;
-        at = end + 1;
-    }
-    Agreed {
-        sealed,
-        opened,
-        exact,
-        tested,
-    }
-}
-
-// The lines of a data file.
-pub fn run_file(rt: &impl Files, finish: Finish, path: &str) -> io::Result<Agreed> {
-    let mut buffer = [0u8; file::MOST];
-    let n = file::read(rt, path, &mut buffer)?;
-    Ok(run(finish, &buffer[..n]))
+// Says of the lines of a data file, of which there are `all`, how many agreed, by what was tried.
+pub fn run_file<R: Files + Print + Alloc>(
+    rt: &R,
+    finish: Finish,
+    path: &str,
+    all: usize,
+) -> io::Result<()> {
+    let text = file::read(rt, path)?;
+    let records: Vec<Compared, R::A> = text
+        .split(|byte| *byte == b'\n')
+        .map(|line| of_line(finish, line))
+        .collect(rt.alloc())?;
+    let sealed = records.iter().filter(|compared| compared.sealed).count();
+    report(rt, "reference records, sealed", sealed, all)?;
+    let opened = records.iter().filter(|compared| compared.opened).count();
+    report(rt, "reference records, opened", opened, all)?;
+    let exact = records.iter().filter(|compared| compared.exact).count();
+    report(rt, "reference records, into their length", exact, all)?;
+    let tested = records.iter().filter(|compared| compared.tested).count();
+    report(rt, "reference records, tested", tested, all)
 }

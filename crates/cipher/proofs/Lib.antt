@@ -1,3 +1,3 @@
--- Keys: a schedule and the key in front of it. Engine: from what an engine gives, by a schedule, to AES under the key.
+-- Keys: a schedule and the key in front of it. ByKey: from what an engine gives, by a schedule, to AES under the key.
 pub mod Keys
-pub mod Engine
+pub mod ByKey

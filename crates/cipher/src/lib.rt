@@ -1,21 +1,18 @@
 #![tactic(auto)]
 // AES-128 and AES-256 as the mode takes them: a key schedule, one block, a group of blocks. Which engine does the work shows nowhere above this crate: its
 // contracts speak of FIPS 197 alone.
-ghost use Rattle.std.specs.Prelude.{◌≡◌, ◌≤◌, length, take};
+ghost use Rattle.std.specs.Prelude.{◌≡◌, ◌≤◌, take};
 ghost use Rattle.fips197.specs.Aes.{KeyLength, not_key, encrypt as encrypt_of, decrypt as decrypt_of};
 ghost use Rattle.cipher.specs.Keys.{key_of, Expanded, Expands};
 ghost use Rattle.cipher.specs.Group.{Enciphered, Deciphered, Middletexts};
 
-pub mod by; // by.rt: the same functions, by the number of an engine
+pub mod engine; // engine.rt: the engines
+pub mod by; // by.rt: the same functions, by an engine
 
-// The engine of two byte tables.
-pub const TABLES: u8 = 0;
-
-// The engine that works the S-box out, with no table indexed by data.
-pub const ARITHMETIC: u8 = 1;
+use engine::Engine;
 
 // THE ENGINE that everything above runs on.
-pub const ENGINE: u8 = TABLES;
+pub const ENGINE: Engine = Engine::Tables;
 
 // The bytes of a key schedule: up to fifteen round keys, and the number of rounds.
 pub const KEYS: usize = aes_steps::schedule::BYTES;
@@ -66,8 +63,6 @@ pub fn encrypt(
     n: usize,
     keys: &[u8; KEYS],
 )
-    requires group_len { length group.old ≡ 64 }
-    requires middle_len { length middle.old ≡ 64 }
     requires n_bound { n ≤ 32 }
     requires expanded { Expanded keys.now }
     ensures { Enciphered n (key_of keys.now) group.old group.new middle.new }
@@ -82,8 +77,6 @@ pub fn decrypt(
     n: usize,
     keys: &[u8; KEYS],
 )
-    requires group_len { length group.old ≡ 64 }
-    requires middle_len { length middle.old ≡ 64 }
     requires n_bound { n ≤ 32 }
     requires expanded { Expanded keys.now }
     ensures { Deciphered n (key_of keys.now) group.old group.new middle.new }
@@ -93,7 +86,6 @@ pub fn decrypt(
 
 // The middletexts of n blocks of ciphertext, in place.
 pub fn middletexts(group: &mut [u64; groups::WORDS], n: usize, keys: &[u8; KEYS])
-    requires group_len { length group.old ≡ 64 }
     requires n_bound { n ≤ 32 }
     requires expanded { Expanded keys.now }
     ensures { Middletexts n (key_of keys.now) group.old group.new }

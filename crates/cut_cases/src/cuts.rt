@@ -1,134 +1,105 @@
 // Seeded messages: each is sealed whole, sealed in runs and checked in runs, and opened, and all has to come to the same.
 ghost use Rattle.std.specs.Prelude.{◌<◌, ◌≤◌};
 
-use crate::cut::{cut_of, in_runs};
-use case_records::answer::{block_from, gives_record, gives_tag};
-use case_text::bytes::{front, one_if, part, starts_with};
+use crate::cut::Cut;
+use case_records::answer::{block_from, tagged, written};
+use case_records::keyed::Keyed;
+use case_text::agreed;
 use case_text::hex::block;
-use case_text::random::{fill, noise};
-use case_tools::call::sealed_into;
+use case_text::random::{Random, noise};
+use case_tools::open::opens;
+use mode::RunRecord;
 use mode::finish::Finish;
-use mode::{RecordAnswer, RunRecord};
+use std::alloc::{AllocError, Global};
 
-// How many messages agreed, by what was tried; the exclusive or of the tags, and of the last ciphertext blocks, of whole sealing. It is
-// given for one message, and for all.
-#[derive(Clone, Copy)]
-pub struct Agreed {
-    pub sealed: usize,
-    pub checked: usize,
-    pub opened: usize,
-    pub tags: [u8; 16],
-    pub ends: [u8; 16],
+// What agreed of a message, by what was tried; and the tag and the last ciphertext block of whole sealing.
+#[derive(Clone, Copy, Debug, PartialEq, Eq)]
+pub struct Message {
+    pub sealed: bool,
+    pub checked: bool,
+    pub opened: bool,
+    pub tag: [u8; 16],
+    pub end: [u8; 16],
 }
+
+// The bytes of an output that has room for any of these records.
+const ROOM: usize = 6144;
 
 // ---- one message
 
 // The message sealed in runs gives the ciphertext and the tag of the whole record.
 fn seals(
-    key: [u8; 16],
-    iv: [u8; 16],
+    alloc: Global,
+    keyed: Keyed,
     seed: u32,
     message: &[u8],
     text: &[u8],
     tag: [u8; 16],
-) -> usize
-    ensures { result ≤ 1 }
-{
-    let mut out = [0u8; 6144];
+) -> Result<bool, AllocError> {
+    let mut out = [0u8; ROOM];
     noise(&mut out);
-    if 6144 < message.len() {
-        return 0;
-    }
-    let whole = cut_of(seed, message.len() / 16);
-    let joined = in_runs(key, iv, whole, true, message, &mut out);
-    one_if(starts_with(&out, text) & closes(key, iv, joined, tag))
+    let cut = Cut::of(alloc, seed, message.len() / 16)?;
+    let joined = cut.work(alloc, message, true, |span| {
+        span.seal(keyed, message, &mut out)
+    })?;
+    Ok(out.starts_with(text) && closes(keyed, joined, tag))
 }
 
 // The record of all runs closes into the tag.
-fn closes(key: [u8; 16], iv: [u8; 16], joined: RecordAnswer, tag: [u8; 16]) -> bool {
-    if joined.refusal != 0 {
-        return false;
-    }
-    gives_tag(
-        tags::record::close(Finish::Cipher, &key, &iv, joined.run),
-        &tag,
-    )
-}
-
-fn passes(key: [u8; 16], iv: [u8; 16], run: RunRecord, tag: [u8; 16]) -> bool {
-    tags::record::test(Finish::Cipher, &key, &iv, run, &tag) == 0
+fn closes(keyed: Keyed, joined: Option<RunRecord>, tag: [u8; 16]) -> bool {
+    joined.is_some_and(|run| tagged(keyed.close(Finish::Cipher, run), Ok(&tag)))
 }
 
 // The ciphertext checked in runs gives the record that it gives in one run, and that record passes the tag.
-fn checks(key: [u8; 16], iv: [u8; 16], seed: u32, text: &[u8], tag: [u8; 16]) -> usize
-    ensures { result ≤ 1 }
-{
-    if 6144 < text.len() {
-        return 0;
-    }
-    let mut unused = [0u8; 16];
-    let joined = in_runs(
-        key,
-        iv,
-        cut_of(seed, text.len() / 16),
-        false,
-        text,
-        &mut unused,
-    );
-    let whole = calls::run::check_run(&key, &iv, 0, text);
-    let run = whole.run;
-    one_if((whole.refusal == 0) & gives_record(joined, run) & passes(key, iv, run, tag))
+fn checks(
+    alloc: Global,
+    keyed: Keyed,
+    seed: u32,
+    text: &[u8],
+    tag: [u8; 16],
+) -> Result<bool, AllocError> {
+    let cut = Cut::of(alloc, seed, text.len() / 16)?;
+    let joined = cut.work(alloc, text, false, |span| span.check(keyed, text))?;
+    let whole = keyed.check_run(0, text);
+    Ok(joined.is_some_and(|run| {
+        whole == Ok(run) && keyed.test(Finish::Cipher, run, &tag).is_ok()
+    }))
 }
 
-// Nothing agreed.
-fn nothing() -> Agreed
-    ensures { (result.sealed ≤ 1) × (result.checked ≤ 1) × (result.opened ≤ 1) }
-{
-    Agreed {
-        sealed: 0,
-        checked: 0,
-        opened: 0,
-        tags: [0u8; 16],
-        ends: [0u8; 16],
-    }
-}
-
-// All else held to the whole record of a message, whose tag starts at `stop`.
-fn held_to(
-    key: [u8; 16],
-    iv: [u8; 16],
+// A message, and all else held to its whole record. Where that is not as long as it should be there is none.
+fn sealed(
+    alloc: Global,
+    keyed: Keyed,
     seed: u32,
     message: &[u8],
-    whole: &[u8],
-    stop: usize,
-) -> Agreed
-    requires seed_bound { seed < 1000000 }
-    requires le_stop { 16 ≤ stop }
-    ensures { (result.sealed ≤ 1) × (result.checked ≤ 1) × (result.opened ≤ 1) }
-{
-    let text = part(whole, 16, stop);
-    let tags = block_from(whole, stop);
-    let mut out = [0u8; 6144];
-    Agreed {
-        sealed: seals(key, iv, seed + 1, message, text, tags),
-        checked: checks(key, iv, seed + 1000, text, tags),
-        opened: case_tools::open::answers(&key, whole, &mut out, 0, message),
-        tags,
-        ends: block_from(whole, stop - 16),
-    }
-}
-
-fn one_message(key: [u8; 16], iv: [u8; 16], seed: u32, message: &[u8]) -> Agreed
+) -> Result<Option<Message>, AllocError>
     requires { seed < 1000000 }
-    ensures { (result.sealed ≤ 1) × (result.checked ≤ 1) × (result.opened ≤ 1) }
 {
     let stop = message.len() / 16 * 16 + 32;
     let size = stop + 16;
-    let mut sealed = [0u8; 6144];
-    if !sealed_into(Finish::Cipher, &key, &iv, message, &mut sealed, 0, size) {
-        return nothing();
+    let mut room = [0u8; ROOM];
+    let given = keyed.seal(Finish::Cipher, message, &mut room);
+    let Some(whole) = room.get(..size) else {
+        return Ok(None);
+    };
+    if !written(given, Ok(()), size, &room) {
+        return Ok(None);
     }
-    held_to(key, iv, seed, message, front(&sealed, size), stop)
+    let text = &whole[16..stop];
+    let tag = block_from(whole, stop);
+    Ok(Some(Message {
+        sealed: seals(alloc, keyed, seed + 1, message, text, tag)?,
+        checked: checks(alloc, keyed, seed + 1000, text, tag)?,
+        opened: opens(
+            Finish::Cipher,
+            keyed.key,
+            whole,
+            &mut [0u8; ROOM],
+            Ok(message),
+        ),
+        tag,
+        end: block_from(whole, stop - 16),
+    }))
 }
 
 // ---- the messages
@@ -141,56 +112,45 @@ fn most(number: u32) -> usize
 }
 
 // Key, IV and message of a number, from the generator.
-fn numbered(number: u32) -> Agreed
+fn numbered(alloc: Global, number: u32) -> Result<Option<Message>, AllocError>
     requires { number < 400 }
-    ensures { (result.sealed ≤ 1) × (result.checked ≤ 1) × (result.opened ≤ 1) }
 {
     let seed = number * 2 + 1;
-    let random = case_text::random::seeded(seed).next();
-    let n = random.below(most(number));
+    let mut random = Random::seeded(seed);
+    random.step();
+    let mut message = vec![in alloc; 0u8; random.below(most(number))]?;
     let mut key = [0u8; 16];
-    let after_key = fill(random, &mut key);
+    random.fill(&mut key);
     let mut iv = [0u8; 16];
-    let after_iv = fill(after_key, &mut iv);
-    let mut message = [0u8; 6000];
-    fill(after_iv, &mut message);
-    one_message(key, iv, seed, &message[0..n])
+    random.fill(&mut iv);
+    random.fill(&mut message);
+    let keyed = Keyed { key: &key, iv: &iv };
+    sealed(alloc, keyed, seed, &message)
 }
 
-pub fn run() -> Agreed {
-    let mut sealed: usize = 0;
-    let mut checked: usize = 0;
-    let mut opened: usize = 0;
+// All messages that were sealed whole.
+pub fn run(alloc: Global) -> Result<Vec<Message>, AllocError> {
+    let mut messages = Vec::new(alloc);
+    for number in 0..400 {
+        if let Some(message) = numbered(alloc, number)? {
+            messages.push(message)?;
+        }
+    }
+    Ok(messages)
+}
+
+// ---- sums
+
+// The exclusive or of all tags, and of all last ciphertext blocks: they are those of vectors/make-mode-vectors.
+pub fn sums(messages: &[Message]) -> usize {
     let mut tags = [0u8; 16];
     let mut ends = [0u8; 16];
-    let mut number: u32 = 0;
-    while number < 400 {
-        let one = numbered(number);
-        sealed += one.sealed;
-        checked += one.checked;
-        opened += one.opened;
-        let tag = one.tags;
-        let more_tags = blocks::block::xor(tags, tag);
-        tags = more_tags;
-        let end = one.ends;
-        let more_ends = blocks::block::xor(ends, end);
-        ends = more_ends;
-        number += 1;
+    for message in messages {
+        tags = blocks::block::xor(tags, message.tag);
+        ends = blocks::block::xor(ends, message.end);
     }
-    Agreed {
-        sealed,
-        checked,
-        opened,
-        tags,
-        ends,
-    }
-}
-
-// The sums are those of vectors/make-mode-vectors.
-pub fn sums(agreed: Agreed) -> usize {
-    let tags = block(b"6D3921BF9C6A9FFAF0954455D84455EE");
-    let ends = block(b"135AE7A00D0850F6D3D3E2421A827D73");
-    let tags_given = agreed.tags;
-    let ends_given = agreed.ends;
-    one_if(blocks::block::equal(tags_given, tags)) + one_if(blocks::block::equal(ends_given, ends))
+    agreed(&[
+        tags == block(b"6D3921BF9C6A9FFAF0954455D84455EE"),
+        ends == block(b"135AE7A00D0850F6D3D3E2421A827D73"),
+    ])
 }

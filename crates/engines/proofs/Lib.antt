@@ -1,3 +1,2 @@
--- Engines: the theorem. Found: equal lists are found the same.
+-- Engines: the theorem.
 pub mod Engines
-pub mod Found

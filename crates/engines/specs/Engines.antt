@@ -1,5 +1,5 @@
 -- Ticket P5: for every key and block the engines are equal, in both halves, in the key schedule and in reverse. An engine is known above the
--- face by its contracts alone, and `cipher::by` has them for the number of every engine. So the statement is that they leave one answer: whatever
+-- face by its contracts alone, and `cipher::by` has them for every engine. So the statement is that they leave one answer: whatever
 -- two engines give of the same key and the same blocks is the same. Of a single block each contract says so in words, by an equation.
 use Rattle.std.specs.Prelude.{◌≡◌, List, ℕ, ◌<◌}
 use Rattle.groups.specs.Group.{block_at}

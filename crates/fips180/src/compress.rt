@@ -1,28 +1,24 @@
 // FIPS 180-4, 6.1.2: the message schedule and the rounds, four words at a time; a block; blocks one after another.
-ghost use Rattle.std.specs.Prelude.{◌≡◌, ◌+◌, ◌*◌, ◌≤◌, [], ◌∷◌, ◌++◌, length, drop};
-ghost use Rattle.blocks.specs.Num.{num};
+ghost use Rattle.std.specs.Prelude.{◌≡◌, ◌+◌, ◌*◌, ◌≤◌, ◌++◌, length, drop};
 ghost use Rattle.blocks.specs.Tab.{tab_from};
 ghost use Rattle.fips180.specs.Sha1.{add as add_words, rotl, round as round_of, rounds, word as word_of, parse, sums, compress, hash};
 ghost use Rattle.fips180.specs.Parts.{next_four};
 
 use crate::Hash;
 
-// x + y, modulo 2^32.
-fn add(x: u32, y: u32) -> u32
-    ensures { result ≡ add_words x y }
-{
-    std::num::wrapping_add_u32(x, y)
-}
-
 // A round with the value of its function, its constant and its word.
 fn step(s: Hash, f: u32, k: u32, w: u32) -> Hash
     ensures { result ≡ record { a = add_words (add_words (add_words (add_words (rotl 5 s.a) f) s.e) k) w; b = s.a; c = rotl 30 s.b; d = s.c; e = s.d } }
 {
-    let rotated = s.a << 5 | s.a >> 27;
+    let rotated = s.a.rotate_left(5);
     Hash {
-        a: add(add(add(add(rotated, f), s.e), k), w),
+        a: rotated
+            .wrapping_add(f)
+            .wrapping_add(s.e)
+            .wrapping_add(k)
+            .wrapping_add(w),
         b: s.a,
-        c: s.b << 30 | s.b >> 2,
+        c: s.b.rotate_left(30),
         d: s.c,
         e: s.d,
     }
@@ -55,29 +51,15 @@ fn four_rounds(s: Hash, t: u32, w: [u32; 4]) -> Hash
     round(c, t + 3, w[3])
 }
 
-// ROTL 1.
-fn rotl_1(x: u32) -> u32
-    ensures { result ≡ rotl 1 x }
-{
-    x << 1 | x >> 31
-}
-
 // The four words of the schedule after sixteen.
 fn next_four(a: [u32; 4], b: [u32; 4], c: [u32; 4], d: [u32; 4]) -> [u32; 4]
     ensures { result ≡ next_four (a ++ (b ++ (c ++ d))) }
 {
-    let first = rotl_1(d[1] ^ c[0] ^ a[2] ^ a[0]);
-    let second = rotl_1(d[2] ^ c[1] ^ a[3] ^ a[1]);
-    let third = rotl_1(d[3] ^ c[2] ^ b[0] ^ a[2]);
-    let fourth = rotl_1(first ^ c[3] ^ b[1] ^ a[3]);
+    let first = (d[1] ^ c[0] ^ a[2] ^ a[0]).rotate_left(1);
+    let second = (d[2] ^ c[1] ^ a[3] ^ a[1]).rotate_left(1);
+    let third = (d[3] ^ c[2] ^ b[0] ^ a[2]).rotate_left(1);
+    let fourth = (first ^ c[3] ^ b[1] ^ a[3]).rotate_left(1);
     [first, second, third, fourth]
-}
-
-// Four bytes as one word, the first one highest.
-fn word(a: u8, b: u8, c: u8, d: u8) -> u32
-    ensures { result ≡ num (a ∷ b ∷ c ∷ d ∷ []) }
-{
-    ((a as u32 * 256 + b as u32) * 256 + c as u32) * 256 + d as u32
 }
 
 // Word i of the block of a slice at an offset.
@@ -86,7 +68,7 @@ fn word_at(s: &[u8], at: usize, i: usize) -> u32
     ensures { result ≡ word_of (drop at s.now) i }
 {
     let p = at + i * 4;
-    word(s[p], s[p + 1], s[p + 2], s[p + 3])
+    u32::from_be_bytes([s[p], s[p + 1], s[p + 2], s[p + 3]])
 }
 
 // Words i to i + 3 of it.
@@ -106,11 +88,11 @@ fn sum(s: Hash, h: Hash) -> Hash
     ensures { result ≡ sums s h }
 {
     Hash {
-        a: add(s.a, h.a),
-        b: add(s.b, h.b),
-        c: add(s.c, h.c),
-        d: add(s.d, h.d),
-        e: add(s.e, h.e),
+        a: s.a.wrapping_add(h.a),
+        b: s.b.wrapping_add(h.b),
+        c: s.c.wrapping_add(h.c),
+        d: s.d.wrapping_add(h.d),
+        e: s.e.wrapping_add(h.e),
     }
 }
 
@@ -168,11 +150,8 @@ pub fn blocks(h: Hash, s: &[u8], n: usize) -> Hash
     ensures { result ≡ hash n s.now h }
 {
     let mut r = h;
-    let mut i: usize = 0;
-    while i < n {
-        let next = block(r, s, i * 64);
-        r = next;
-        i += 1;
+    for i in 0..n {
+        r = block(r, s, i * 64);
     }
     r
 }

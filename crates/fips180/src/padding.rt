@@ -1,23 +1,10 @@
 // FIPS 180-4, 5.1.1: padding; and the bytes of the digest.
 ghost use Rattle.std.specs.Prelude.{◌≡◌, ◌+◌, ◌-◌, ◌≤◌, ◌++◌, length, drop};
 ghost use Rattle.blocks.specs.Bytes.{zeros};
-ghost use Rattle.blocks.specs.Num.{low_bytes};
 ghost use Rattle.fips180.specs.Sha1.{digest_of};
 ghost use Rattle.fips180.specs.Parts.{last_part, Ends};
 
 use crate::Hash;
-
-// The four bytes of a word, the highest first.
-fn four_bytes(x: u32) -> [u8; 4]
-    ensures { result ≡ low_bytes 4 x }
-{
-    [
-        ((x >> 24) % 256) as u8,
-        ((x >> 16) % 256) as u8,
-        ((x >> 8) % 256) as u8,
-        (x % 256) as u8,
-    ]
-}
 
 // The rest of a text from byte n on, in front of zeros.
 fn rest(text: &[u8], n: usize) -> [u8; 128]
@@ -46,11 +33,11 @@ pub fn last_blocks(text: &[u8], n: usize, end: usize) -> [u8; 128]
 pub fn digest_bytes(h: Hash) -> [u8; 20]
     ensures { result ≡ digest_of h }
 {
-    let a = four_bytes(h.a);
-    let b = four_bytes(h.b);
-    let c = four_bytes(h.c);
-    let d = four_bytes(h.d);
-    let e = four_bytes(h.e);
+    let a = h.a.to_be_bytes();
+    let b = h.b.to_be_bytes();
+    let c = h.c.to_be_bytes();
+    let d = h.d.to_be_bytes();
+    let e = h.e.to_be_bytes();
     [
         a[0], a[1], a[2], a[3], b[0], b[1], b[2], b[3], c[0], c[1], c[2], c[3], d[0], d[1], d[2],
         d[3], e[0], e[1], e[2], e[3],

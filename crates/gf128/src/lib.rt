@@ -1,7 +1,7 @@
 #![tactic(auto)]
 // A block as a polynomial over GF(2) of degree below 128, modulo x^128 + x^7 + x^2 + x + 1, in two words: the top bit of the upper word is
 // the coefficient of x^127. Each contract is about the bytes of the words, by document 01's formulas over bytes.
-ghost use Rattle.std.specs.Prelude.{◌≡◌, ◌*◌, ◌/◌, ◌^◌, ◌≤◌, ◌<◌, nat_abs};
+ghost use Rattle.std.specs.Prelude.{◌≡◌, ◌*◌, ◌/◌, ◌^◌, ◌≤◌, ◌<◌};
 ghost use Rattle.std.specs.Int.Bits.{bit_xor};
 ghost use Rattle.blocks.specs.Field.{step, steps, times};
 ghost use Rattle.blocks.specs.Num.{num};
@@ -53,11 +53,8 @@ fn take_bits(r: Words, v: u64, b: Words, bits: u32) -> Words
     ensures { num (bytes_of result) ≡ bit_xor (times 127 0x87 bits v (num (bytes_of b))) (steps 127 0x87 bits (num (bytes_of r))) }
 {
     let mut q = r;
-    let mut left = bits;
-    while left > 0 {
-        left -= 1;
-        let next = take_bit(q, (v >> left) % 2, b);
-        q = next;
+    for left in (0..bits).rev() {
+        q = take_bit(q, (v >> left) % 2, b);
     }
     q
 }
@@ -67,8 +64,7 @@ fn times_word(v: u64, b: Words) -> Words
     ensures { num (bytes_of result) ≡ times 127 0x87 64 v (num (bytes_of b)) }
 {
     let zero = Words { high: 0, low: 0 };
-    let bits = 64 - u64::leading_zeros(v);
-    take_bits(zero, v, b, bits)
+    take_bits(zero, v, b, 64 - v.leading_zeros())
 }
 
 // A low power of x, by which short runs are joined and jumped over, has an upper word of zero.
@@ -118,9 +114,7 @@ pub fn square(b: Words) -> Words
         high: spread(b.low >> 32),
         low: spread(b.low % 4294967296),
     };
-    let moved = times_x64(upper);
-    let reduced = times_x64(moved);
-    blocks::words::xor(lower, reduced)
+    lower ^ times_x64(times_x64(upper))
 }
 
 // ---- powers of x, by repeated squaring; of 1/x where `back` is set
@@ -153,11 +147,8 @@ pub fn power(n: u32, back: bool) -> Words
     ensures { bytes_of result ≡ power_of (signed back n) }
 {
     let mut q = Words { high: 0, low: 1 };
-    let mut left: u32 = 32;
-    while left > 0 {
-        left -= 1;
-        let next = take_power(q, n >> left, back);
-        q = next;
+    for left in (0..32u32).rev() {
+        q = take_power(q, n >> left, back);
     }
     q
 }
@@ -171,8 +162,7 @@ fn jump_towards(b: Words, n: u32, back: bool) -> Words
     if n == 0 {
         return b;
     }
-    let p = power(n, back);
-    multiply(p, b)
+    multiply(power(n, back), b)
 }
 
 // The block b, multiplied by x n times.
@@ -182,22 +172,10 @@ pub fn jump(b: Words, n: u32) -> Words
     jump_towards(b, n, false)
 }
 
-// The number of blocks of a distance, either way. The most negative one has no counterpart of 32 bits, so it is turned round at 64.
-fn magnitude(distance: i32) -> u32
-    ensures { result ≡ nat_abs distance }
-{
-    let wide = distance as i64;
-    if wide < 0 {
-        return (0 - wide) as u32;
-    }
-    wide as u32
-}
-
 // The block b jumped by a signed distance.
 pub fn jump_by(b: Words, distance: i32) -> Words
     ensures { bytes_of result ≡ jump_by distance (bytes_of b) }
 {
-    let n = magnitude(distance);
     let back = distance < 0;
-    jump_towards(b, n, back)
+    jump_towards(b, distance.unsigned_abs(), back)
 }

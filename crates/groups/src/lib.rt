@@ -1,5 +1,6 @@
 #![tactic(auto)]
-// Groups: up to 32 blocks in an array of 64-bit words, two to a block. Each function works on the first n blocks of a group.
+// Groups: up to 32 blocks in an array of 64-bit words, two to a block. Each function works on the first n blocks of a group. The array and the
+// number are no struct, since the functions of `cipher` take them so, whose signatures stand.
 ghost use Rattle.std.specs.Prelude.{◌≡◌, ◌*◌, ◌<◌, ◌≤◌, length};
 ghost use Rattle.blocks.specs.Bytes.{xor_bytes};
 ghost use Rattle.blocks.specs.Words.{bytes_of};
@@ -17,7 +18,7 @@ pub fn in_group(left: usize) -> usize
     requires { 0 < left }
     ensures { InGroup left result }
 {
-    if BLOCKS < left { BLOCKS } else { left }
+    left.min(BLOCKS)
 }
 
 // Block i.
@@ -33,8 +34,7 @@ pub fn get(group: &[u64; WORDS], i: usize) -> Words
 
 // Block i is set. The other blocks stay.
 pub fn put(group: &mut [u64; WORDS], i: usize, w: Words)
-    requires group_len { length group.old ≡ 64 }
-    requires i_bound { i < 32 }
+    requires { i < 32 }
     ensures { Put i (bytes_of w) group.old group.new }
 {
     group[i * 2] = w.high;
@@ -45,44 +45,35 @@ pub fn put(group: &mut [u64; WORDS], i: usize, w: Words)
 pub fn load(s: &[u8], n: usize, group: &mut [u64; WORDS])
     requires n_bound { n ≤ 32 }
     requires n_in_bounds { n * 16 ≤ length s.now }
-    requires group_len { length group.old ≡ 64 }
     ensures { Holds n (block_of s.now) group.new }
 {
-    let mut i: usize = 0;
-    while i < n {
+    for i in 0..n {
         let w = blocks::words::load(s, i * 16);
         put(group, i, w);
-        i += 1;
     }
 }
 
 // The blocks of another group.
 pub fn copy(from: &[u64; WORDS], n: usize, group: &mut [u64; WORDS])
     requires n_bound { n ≤ 32 }
-    requires group_len { length group.old ≡ 64 }
     ensures { Holds n (block_at from.now) group.new }
 {
-    let mut i: usize = 0;
-    while i < n {
+    for i in 0..n {
         let w = get(from, i);
         put(group, i, w);
-        i += 1;
     }
 }
 
 // The exclusive or of each block with that of another group.
 pub fn xor(group: &mut [u64; WORDS], other: &[u64; WORDS], n: usize)
     requires n_bound { n ≤ 32 }
-    requires group_len { length group.old ≡ 64 }
     ensures { Holds n (λ i. xor_bytes (block_at group.old i) (block_at other.now i)) group.new }
 {
-    let mut i: usize = 0;
-    while i < n {
+    for i in 0..n {
         let a = get(group, i);
         let b = get(other, i);
-        let sum = blocks::words::xor(a, b);
+        let sum = a ^ b;
         put(group, i, sum);
-        i += 1;
     }
 }
 
@@ -92,10 +83,7 @@ pub fn store(group: &[u64; WORDS], n: usize, d: &mut [u8])
     requires n_in_bounds { n * 16 ≤ length d.old }
     ensures { d.new ≡ in_front n (block_at group.now) d.old }
 {
-    let words = n * 2;
-    let mut i: usize = 0;
-    while i < words {
+    for i in 0..n * 2 {
         blocks::words::store_word(d, i * 8, group[i]);
-        i += 1;
     }
 }

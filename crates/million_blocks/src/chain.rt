@@ -1,10 +1,11 @@
 // The rule of the paper's second vector: each ciphertext block is the next block of the message. So the blocks are sealed one at a time, each as
 // a run of its own at its block number.
-ghost use Rattle.std.specs.Prelude.{◌≡◌, ◌≤◌, length};
+ghost use Rattle.std.specs.Prelude.{◌≤◌};
 
-use case_records::answer::{of_run, record, written};
-use case_tools::call::run_into;
+use case_records::answer::{record, written};
+use case_records::keyed::Keyed;
 use mode::RunRecord;
+use std::alloc::{AllocError, Global};
 
 // The last ciphertext block, which is the next block of the message, and the record of the blocks so far.
 #[derive(Clone, Copy)]
@@ -13,57 +14,69 @@ pub struct Link {
     pub run: RunRecord,
 }
 
-// A block of the message, with none before it: its number is the first of the record.
-pub fn no_link(block: [u8; 16], number: u32) -> Link {
-    Link {
-        block,
-        run: record(number, 0, [0u8; 16]),
+impl Link {
+    // A block of the message, with none before it: its number is the first of the record.
+    pub fn none(block: [u8; 16], number: u32) -> Link {
+        Link {
+            block,
+            run: record(number, 0, [0u8; 16]),
+        }
+    }
+
+    // One block sealed and joined to those before it. Where an answer is not as it should be there is none.
+    pub fn next(self, keyed: Keyed, number: u32) -> Option<Link> {
+        let mut out = [0u8; 32];
+        let sealed = keyed.seal_run(number, false, &self.block, &mut out).ok()?;
+        if !written(Ok(sealed.length), Ok(()), 16, &out) {
+            return None;
+        }
+        Some(Link {
+            block: blocks::block::load(&out, 0),
+            run: self.run.join(sealed.run).ok()?,
+        })
     }
 }
 
-// One block sealed and joined to those before it. Where an answer is not as it should be, block and record are zero.
-pub fn next_link(key: &[u8], iv: &[u8], before: Link, number: u32) -> Link {
-    let text = before.block;
-    let left = before.run;
-    let mut out = [0u8; 32];
-    let sealed = run_into(key, iv, number, false, &text, &mut out);
-    let right = sealed.run;
-    let joined = left.join(right);
-    if !written(of_run(sealed), 0, 16, &out) || joined.refusal != 0 {
-        return no_link([0u8; 16], 0);
-    }
-    let run = joined.run;
-    Link {
-        block: blocks::block::load(&out, 0),
-        run,
-    }
+// Blocks in message order, and the ciphertext of the last of them; and the record of all but that.
+#[derive(Drop)]
+pub struct Chain {
+    pub blocks: Vec<[u8; 16]>,
+    pub run: RunRecord,
 }
 
-// The bytes of a run's blocks, and of one block more.
-pub const TEXT: usize = 32784;
-
-// A block, which has this number, and the ciphertext of `count` blocks from it on, in order. The answer is their record.
-pub fn fill(
-    key: &[u8],
-    iv: &[u8],
-    block: [u8; 16],
-    number: u32,
-    count: u32,
-    text: &mut [u8],
-) -> RunRecord
-    requires number_bound { number ≤ 1000000 }
-    requires count_bound { count ≤ 2048 }
-    requires text_len { length text.old ≡ 32784 }
-{
-    blocks::block::store(text, 0, block);
-    let mut last = no_link(block, number);
-    let mut n: u32 = 0;
-    while n < count {
-        let next = next_link(key, iv, last, number + n);
-        last = next;
-        n += 1;
-        let sealed = last.block;
-        blocks::block::store(text, n as usize * 16, sealed);
+impl Chain {
+    // A block, which has this number, and the ciphertext of `count` blocks from it on. Where an answer is not as it should be they stop before it.
+    pub fn of(
+        alloc: Global,
+        keyed: Keyed,
+        block: [u8; 16],
+        number: u32,
+        count: u32,
+    ) -> Result<Chain, AllocError>
+        requires number_bound { number ≤ 1000000 }
+        requires count_bound { count ≤ 2048 }
+    {
+        let mut blocks = vec![in alloc; block]?;
+        let mut last = Link::none(block, number);
+        for n in 0..count {
+            let Some(next) = last.next(keyed, number + n) else {
+                break;
+            };
+            last = next;
+            blocks.push(last.block)?;
+        }
+        Ok(Chain {
+            blocks,
+            run: last.run,
+        })
     }
-    last.run
+
+    // The blocks that have a ciphertext, and their ciphertext.
+    pub fn text_and_cipher(&self) -> (&[[u8; 16]], &[[u8; 16]]) {
+        let size = self.blocks.len().saturating_sub(1);
+        (
+            &self.blocks[..size],
+            self.blocks.get(1..).unwrap_or_default(),
+        )
+    }
 }

@@ -3,18 +3,16 @@
 ghost use Rattle.std.specs.Prelude.{◌≤◌};
 
 use crate::chain::Link;
-use blocks::block::{equal, xor};
+use blocks::block::xor;
 use case_records::jump::jumped;
-use case_text::bytes::one_if;
 use case_text::hex::block;
-use case_text::paper;
+use case_text::{agreed, paper};
 
 // Step 1: the IV plus the key, encrypted, plus the key.
 pub fn start_mask() -> [u8; 16] {
     let key = paper::key();
     let sum = xor(paper::iv(), key);
-    let encrypted = case_tools::aes::encrypt(&key, sum);
-    xor(encrypted, key)
+    xor(case_tools::aes::encrypt(&key, sum), key)
 }
 
 // Two blocks have this sum, and it is encrypted to this, in digits.
@@ -22,9 +20,8 @@ pub fn sum_is(a: [u8; 16], b: [u8; 16], sum: &[u8; 32], encrypted: &[u8; 32]) ->
     ensures { result ≤ 2 }
 {
     let added = xor(a, b);
-    let key = paper::key();
-    let given = case_tools::aes::encrypt(&key, added);
-    one_if(equal(added, block(sum))) + one_if(equal(given, block(encrypted)))
+    let given = case_tools::aes::encrypt(&paper::key(), added);
+    agreed(&[added == block(sum), given == block(encrypted)])
 }
 
 // ---- blocks 1 and 2
@@ -34,7 +31,7 @@ fn first(r1: [u8; 16]) -> usize
     ensures { result ≤ 3 }
 {
     let m1 = block(b"00112233445566778899AABBCCDDEEFF");
-    one_if(equal(r1, block(b"FDED29920913A3DA8C9ECA2F0FD434AA")))
+    usize::from(r1 == block(b"FDED29920913A3DA8C9ECA2F0FD434AA"))
         + sum_is(
             m1,
             r1,
@@ -63,8 +60,6 @@ fn second(a1: [u8; 16], m2: [u8; 16], r2: [u8; 16]) -> usize
 // Of c1, which is m2, and the record that holds A1, as the calls give them.
 pub fn printed(link: Link) -> usize {
     let r1 = start_mask();
-    let m2 = link.block;
-    let run = link.run;
-    let a1 = blocks::words::to_bytes(run.preauthenticator);
-    first(r1) + second(a1, m2, jumped(r1, 1))
+    let a1 = <[u8; 16]>::from(link.run.preauthenticator);
+    first(r1) + second(a1, link.block, jumped(r1, 1))
 }

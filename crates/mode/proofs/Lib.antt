@@ -5,6 +5,7 @@ pub mod Aes
 pub mod Keys
 pub mod Rows
 pub mod Answers
+pub mod Numbers
 pub mod Passed
 pub mod Decisions
 pub mod Same

@@ -1,17 +1,15 @@
 -- What each call answers: a total function of the contents handed in and of the length of the lent output, and of nothing else. A name that ends in
 -- `_within` is the call with any limit n; the call itself has `limit`.
 use Rattle.std.proofs.Math.Option.{Option, some, none as no-message}
-use Rattle.std.specs.Prelude.{List, [], ◌∷◌, ◌++◌, Bool, true, false, cond, not, ℕ, zero, suc, ◌+◌, ◌*◌, ◌-◌, length, take, ℤ}
+use Rattle.std.specs.Prelude.{Result, List, [], ◌∷◌, ◌++◌, Bool, true, false, cond, not, ℕ, zero, suc, ◌+◌, ◌*◌, ◌-◌, length, take, ℤ}
 use Rattle.blocks.specs.Bytes.{xor_bytes, same, zeros}
 use Rattle.gf128.specs.Gf128.{times_x, jump, jump_by}
 use Rattle.fips180.specs.Sha1.{sha1}
 use Rattle.mode.specs.Mode.{Cipher, Finish, Source, plaintext, ciphertext, Pass, Form, RunRecord, in_words, blocks_of, padded, zero_block, start_mask, middletext, pass, unbroken_tag, sealed_record, iv_part, cipher_part, tag_part}
 use Rattle.mode.specs.Table.{Answer, refused, given, decide, limit, not_key, not16, unaligned, too_long_within, not_tag, not_sealed_within, beyond_within, any_beyond_within, too_far_within, unhashable, apart, none, not_whole, zero_mask, too_short}
--- the code's answers, as it declares them
-pub use Rattle.mode.specs.declared.Written.{Written}
-pub use Rattle.mode.specs.declared.RunAnswer.{RunAnswer}
-pub use Rattle.mode.specs.declared.RecordAnswer.{RecordAnswer}
-pub use Rattle.mode.specs.declared.TagAnswer.{TagAnswer}
+use Rattle.mode.specs.Refusals.{Refusal, answered}
+-- a sealed run, as the code declares it
+pub use Rattle.mode.specs.declared.SealedRun.{SealedRun}
 
 -- what a call that writes comes to: its answer, the number of answer bytes (0 beside a refusal) and the whole lent output
 pub record Outcome (A : Type 0) : Type 0 where
@@ -311,38 +309,31 @@ calls_of c =
       tests = λ t. test in_words t c;
     }
 
--- ---- the answers as the code gives them
+-- ---- the answers as the code gives them: beside a refusal there is nothing
 
 -- document 01's number of a refusal; 0 stands for none
 unfoldable pub number : {A : Type 0} → Answer A → ℕ
 number (refused n) = n
 number (given a) = 0
 
--- what is given, or what stands beside a refusal
-unfoldable pub or_else : {A : Type 0} → A → Answer A → A
-or_else d (refused n) = d
-or_else d (given a) = a
+-- the number of answer bytes
+abbrev pub written_of : {A : Type 0} → Outcome A → Result ℕ Refusal
+written_of o = answered (λ a. o.reported) o.answer
 
-unfoldable pub written_of : {A : Type 0} → Outcome A → Written
-written_of o = record { refusal = number o.answer; length = o.reported }
+-- that, and the record
+abbrev pub sealed_run_of : Outcome RunRecord → Result SealedRun Refusal
+sealed_run_of o = answered (λ r. record { length = o.reported; run = r }) o.answer
 
--- with nothing refused
-abbrev pub written_given : ℕ → Written
-written_given n = record { refusal = 0; length = n }
-
-unfoldable pub run_answer_of : Outcome RunRecord → RunAnswer
-run_answer_of o = record { refusal = number o.answer; length = o.reported; run = or_else (blank in_words) o.answer }
-
-unfoldable pub record_answer_of : Answer RunRecord → RecordAnswer
-record_answer_of a = record { refusal = number a; run = or_else (blank in_words) a }
-
--- what stands beside a refusal
-abbrev pub refused_record : ℕ → RecordAnswer
-refused_record n = record { refusal = n; run = blank in_words }
+abbrev pub record_of_answer : Answer RunRecord → Result RunRecord Refusal
+record_of_answer a = answered (λ r. r) a
 
 -- a tag as the code holds it: 20 bytes, zeros behind a shorter one
 unfoldable pub held_tag : List ℕ → List ℕ
 held_tag tag = tag ++ zeros (20 - length tag)
 
-unfoldable pub tag_answer_of : Answer (List ℕ) → TagAnswer
-tag_answer_of a = record { refusal = number a; tag = held_tag (or_else [] a) }
+abbrev pub tag_of_answer : Answer (List ℕ) → Result (List ℕ) Refusal
+tag_of_answer a = answered held_tag a
+
+-- whether a tag passed
+abbrev pub test_of_answer : Answer (Unit {0}) → Result (Unit {0}) Refusal
+test_of_answer a = answered (λ u. u) a

@@ -3,6 +3,7 @@
 pub mod Mode
 pub mod Aes
 pub mod Table
+pub mod Refusals
 pub mod Calls
 pub mod OpenBefore
 pub mod Powers

@@ -9,12 +9,20 @@ use borrow.Author.Tests.{ltb-true, ltb-false}
 use lib.Dec.{ltb}
 use lib.ListN.{length, take, drop, get_or, length-append, take-append-drop}
 use lib.Seq.{get_or-drop, drop-cons, drop-length, split_at, take_at, drop_at, length-take-le}
+use Rattle.std.specs.Prelude.{None, Some}
 use Rattle.blocks.specs.Bytes.{zeros}
 use Rattle.mode.specs.Mode.{padded}
 use Rattle.mode.specs.Calls.{unpad_from, unpadded}
 use Rattle.mode.proofs.Blocks.{length-padded, padded-append}
 use Rattle.mode.proofs.Bytes.{zeros_at, mark_at, zero_past, unpad_sound, unpad_complete}
 use Rattle.opening.specs.Work.{end_by, message_end}
+
+-- a place that was found is one place, and not none
+some_is : (a b : ℕ) → Some a ≡ Some b → a ≡ b
+some_is a b e = grind arith
+
+not_none : (a : ℕ) → Some a ≡ None → ⊥
+not_none a e = grind arith
 
 -- ---- the mark 80 and the zeros behind it
 
@@ -66,7 +74,7 @@ module _ (block : List ℕ) (long : length block ≡ 16) where
       ∙ ap₂ (λ (x : ℕ) (y : List ℕ). x ∷ y) b (ap (λ (j : ℕ). drop j block) (let k : suc (end - 1) ≡ end = omega arith in k) ∙ z)
       ∙ ap zeros (let q : suc (16 - end) ≡ 16 - (end - 1) = omega arith in q)
 
-  pub ends_there : (end : ℕ) → 0 < end → end ≤ 16 → get_or block (end - 1) 0 ≡ 0x80 → drop end block ≡ zeros (16 - end) → end - 1 ≡ message_end block
+  pub ends_there : (end : ℕ) → 0 < end → end ≤ 16 → get_or block (end - 1) 0 ≡ 0x80 → drop end block ≡ zeros (16 - end) → Some (end - 1) ≡ message_end block
   unfolding message_end end_by padded
   ends_there end h l b z =
       let n : length (take (end - 1) block) ≡ end - 1 = length-take-le (end - 1) block (omega (arith, long)) in
@@ -74,13 +82,13 @@ module _ (block : List ℕ) (long : length block ≡ 16) where
       let s : suc (end - 1) ≡ end = omega arith in
       let p : padded (take (end - 1) block) ≡ block =
       sym (split_at block (end - 1) 0 (omega (arith, long)) ∙ ap₂ (λ (x : ℕ) (y : List ℕ). take (end - 1) block ++ (x ∷ y)) b (ap (λ (j : ℕ). drop j block) s ∙ z ∙ ap zeros k)) in
-      sym (ap end_by (found block (take (end - 1) block) p) ∙ n)
+      sym (ap end_by (found block (take (end - 1) block) p) ∙ ap (λ (k : ℕ). Some k) n)
 
-  pub ends_nowhere : ((m : List ℕ) → padded m ≡ block → ⊥) → 16 ≡ message_end block
+  pub ends_nowhere : ((m : List ℕ) → padded m ≡ block → ⊥) → None ≡ message_end block
   unfolding message_end end_by unpadded
   ends_nowhere h = by (unpad_from 16 block) refl
     where
-      by : (o : Option (List ℕ)) → unpad_from 16 block ≡ o → 16 ≡ end_by o
+      by : (o : Option (List ℕ)) → unpad_from 16 block ≡ o → None ≡ end_by o
       by no-message q = refl
       by (some m) q = absurd (h m (unpad_sound 16 block m q))
 
@@ -88,13 +96,13 @@ module _ (block : List ℕ) (long : length block ≡ 16) where
   shorter : (m : List ℕ) → padded m ≡ block → length m < 16
   shorter m p = let n = sym (length-padded m) ∙ ap length p ∙ long in omega (arith, n)
 
-  pub end_within : message_end block ≤ 16
+  pub end_within : (end : ℕ) → Some end ≡ message_end block → end < 16
   unfolding message_end end_by unpadded
-  end_within = by (unpad_from 16 block) refl
+  end_within end = by (unpad_from 16 block) refl
     where
-      by : (o : Option (List ℕ)) → unpad_from 16 block ≡ o → end_by o ≤ 16
-      by no-message q = omega arith
-      by (some m) q = omega (arith, shorter m (unpad_sound 16 block m q))
+      by : (o : Option (List ℕ)) → unpad_from 16 block ≡ o → Some end ≡ end_by o → end < 16
+      by no-message q e = absurd (not_none end e)
+      by (some m) q e = let k = some_is end (length m) e in omega (arith, k, shorter m (unpad_sound 16 block m q))
 
   -- ---- behind whole blocks
 
@@ -109,7 +117,7 @@ module _ (block : List ℕ) (long : length block ≡ 16) where
         sym (padded-append (take k n) (drop k n) (ap (λ (j : ℕ). j % 16) l ∙ aligned)) ∙ ap padded (take-append-drop k n) ∙ p in
         sym (drop_at (take k n) (padded (drop k n)) k l) ∙ ap (drop k) s ∙ drop_at front block k refl
 
-    pub none_behind : message_end block ≡ 16 → unpadded (front ++ block) ≡ no-message
+    pub none_behind : None ≡ message_end block → unpadded (front ++ block) ≡ no-message
     unfolding message_end end_by unpadded
     none_behind e = by (unpad_from 16 (front ++ block)) refl
       where
@@ -117,15 +125,21 @@ module _ (block : List ℕ) (long : length block ≡ 16) where
         by no-message q = refl
         by (some n) q =
             let p = block-padded n (unpad_sound 16 (front ++ block) n q) in
-            absurd (let l = sym e ∙ ap end_by (unfold unpadded in (found block (drop (length front) n) p)) in omega (arith, shorter (drop (length front) n) p, l))
+            absurd (let l = e ∙ ap end_by (unfold unpadded in (found block (drop (length front) n) p)) in not_none (length (drop (length front) n)) (sym l))
 
-    pub some_behind : (end : ℕ) → end ≡ message_end block → (end ≡ 16 → ⊥) → unpadded (front ++ block) ≡ some (front ++ take end block)
+    message_front : (m : List ℕ) (end : ℕ) → padded m ≡ block → end ≡ length m → take end block ≡ m
+    unfolding padded
+    message_front m end p l = ap (take end) (sym p) ∙ take_at m (0x80 ∷ zeros (15 - length m % 16)) end (sym l)
+
+    whole_found : (m : List ℕ) (end : ℕ) → padded m ≡ block → end ≡ length m → unpadded (front ++ block) ≡ some (front ++ take end block)
+    whole_found m end p l =
+        found (front ++ block) (front ++ m) (padded-append front m aligned ∙ ap (λ (x : List ℕ). front ++ x) p)
+        ∙ ap (λ (x : List ℕ). some (front ++ x)) (sym (message_front m end p l))
+
+    pub some_behind : (end : ℕ) → Some end ≡ message_end block → unpadded (front ++ block) ≡ some (front ++ take end block)
     unfolding message_end end_by unpadded
-    some_behind end en h = by (unpad_from 16 block) refl en
+    some_behind end = by (unpad_from 16 block) refl
       where
-        by : (o : Option (List ℕ)) → unpad_from 16 block ≡ o → end ≡ end_by o → unpad_from 16 (front ++ block) ≡ some (front ++ take end block)
-        by no-message q k = absurd (h k)
-        by (some m) q k =
-            let p : padded m ≡ block = unpad_sound 16 block m q in
-            let t : take end block ≡ m = ap (take end) (sym p) ∙ (unfold padded in (take_at m (0x80 ∷ zeros (15 - length m % 16)) end (sym k))) in
-            (unfold unpadded in (found (front ++ block) (front ++ m) (padded-append front m aligned ∙ ap (λ (x : List ℕ). front ++ x) p))) ∙ ap (λ (x : List ℕ). some (front ++ x)) (sym t)
+        by : (o : Option (List ℕ)) → unpad_from 16 block ≡ o → Some end ≡ end_by o → unpad_from 16 (front ++ block) ≡ some (front ++ take end block)
+        by no-message q k = absurd (not_none end k)
+        by (some m) q k = whole_found m end (unpad_sound 16 block m q) (some_is end (length m) k)

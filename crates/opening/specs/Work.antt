@@ -1,5 +1,5 @@
 -- What the functions below the call ask and give.
-use Rattle.std.specs.Prelude.{◌≡◌, Bool, List, [], ◌∷◌, ◌++◌, ℕ, ◌%◌, ◌-◌, ◌≤◌, length, take}
+use Rattle.std.specs.Prelude.{Option as Found, None, Some, ◌≡◌, Bool, List, [], ◌∷◌, ◌++◌, ℕ, ◌%◌, ◌-◌, ◌≤◌, length, take}
 use Rattle.std.proofs.Math.Option.{Option, some, none as no-message}
 use Rattle.mode.specs.Mode.{Finish, ciphertext, zero_block, blocks_of, pass, iv_part}
 use Rattle.mode.specs.Aes.{aes}
@@ -25,12 +25,12 @@ pub record Checks (t : Finish) (key mask text tag last : List ℕ) : Type 0 wher
   pub opened : front_of key mask text ++ last ≡ decrypted aes key (blocks_of text) mask
   pub long : length last ≡ 16
 
--- where the message ends in a last block; 16 where this is not padded
-unfoldable pub end_by : Option (List ℕ) → ℕ
-end_by no-message = 16
-end_by (some message) = length message
+-- where the message ends in a last block, if this is padded
+unfoldable pub end_by : Option (List ℕ) → Found ℕ
+end_by no-message = None
+end_by (some message) = Some (length message)
 
-unfoldable pub message_end : List ℕ → ℕ
+unfoldable pub message_end : List ℕ → Found ℕ
 message_end block = end_by (unpadded block)
 
 -- what opening comes to once the tag is right: the message, 7 or 5

@@ -33,11 +33,9 @@ pub(crate) fn check(
 {
     let front = text.len() - 16;
     let before = runs::run::run(Task::Check, start, keys, text, front / 16, out);
-    let mask = before.mask;
     let mut last = [0u8; 16];
-    let end = runs::run::run(Task::Open, mask, keys, &text[front..], 1, &mut last);
-    let moved = gf128::times_x(before.preauthenticator);
-    let preauthenticator = blocks::words::xor(moved, end.preauthenticator);
+    let end = runs::run::run(Task::Open, before.mask, keys, &text[front..], 1, &mut last);
+    let preauthenticator = gf128::times_x(before.preauthenticator) ^ end.preauthenticator;
     let tag = tags::tag::tag(finish, key, preauthenticator, end.mask, keys);
     Checked { tag, last }
 }

@@ -7,25 +7,23 @@ ghost use Rattle.mode.specs.Calls.{written_of};
 ghost use Rattle.opening.specs.Work.{Ciphertext, front_of, message_end, released};
 
 use blocks::words::Words;
-use mode::Written;
+use mode::Refusal;
 use runs::run::Task;
 
-// The padding is a byte 80 and zeros after it, at the end of the last block. Where it starts in that block; 16 where there is none.
-fn message_end(block: [u8; 16]) -> usize
+// The padding is a byte 80 and zeros after it, at the end of the last block. Where it starts in that block, if there is one.
+fn message_end(block: [u8; 16]) -> Option<usize>
     ensures { result ≡ message_end block }
 {
-    let mut end: usize = 16;
-    while end > 0 {
-        end -= 1;
+    for end in (0..16).rev() {
         let byte = block[end];
         if byte == 0x80 {
-            return end;
+            return Some(end);
         }
         if byte != 0 {
-            return 16;
+            return None;
         }
     }
-    16
+    None
 }
 
 // WRITE a message into an output that holds zeros: the blocks before the last, and of the last one, whose plaintext is at hand, the bytes up to its
@@ -57,27 +55,20 @@ pub(crate) fn release(
     text: &[u8],
     last: [u8; 16],
     out: &mut [u8],
-) -> Written
+) -> Result<usize, Refusal>
     requires expanded { Expanded keys.now }
     requires ciphertext { Ciphertext text.now }
     requires fresh { Fresh out.old }
     ensures answer { result ≡ written_of (released (front_of (key_of keys.now) (bytes_of start) text.now ++ last) (length out.old)) }
     ensures output { out.new ≡ (released (front_of (key_of keys.now) (bytes_of start) text.now ++ last) (length out.old)).output }
 {
-    let end = message_end(last);
+    let Some(end) = message_end(last) else {
+        return Err(Refusal::Padding);
+    };
     let length = text.len() - 16 + end;
-    if end == 16 {
-        return Written {
-            refusal: 7,
-            length: 0,
-        };
-    }
     if out.len() < length {
-        return Written {
-            refusal: 5,
-            length: 0,
-        };
+        return Err(Refusal::OutputTooShort);
     }
     write(start, keys, text, last, end, out);
-    Written { refusal: 0, length }
+    Ok(length)
 }

@@ -2,8 +2,10 @@
 ghost use Rattle.std.specs.Prelude.{◌≡◌};
 ghost use Rattle.mode.specs.Mode.{finish_named};
 ghost use Rattle.mode.specs.Table.{first_row, not_sealed};
+ghost use Rattle.mode.specs.Refusals.{passed};
 ghost use Rattle.opening.specs.Work.{open_first_rows};
 
+use mode::Refusal;
 use mode::finish::Finish;
 
 // Whether a record has a length that opening does not take: with no block, with too many, or with a part of one.
@@ -21,18 +23,18 @@ fn not_sealed(finish: Finish, sealed: &[u8]) -> bool
     size % 16 != 0
 }
 
-// The first of them that holds, or 0.
-pub(crate) fn open_refusal(finish: Finish, key: &[u8], sealed: &[u8]) -> u8
-    ensures { result ≡ first_row (open_first_rows (finish_named finish) key.now sealed.now) }
+// The first of them that holds.
+pub(crate) fn open_refusal(finish: Finish, key: &[u8], sealed: &[u8]) -> Result<(), Refusal>
+    ensures { result ≡ passed (first_row (open_first_rows (finish_named finish) key.now sealed.now)) }
 {
     if cipher::not_key(key) {
-        return 1;
+        return Err(Refusal::KeyLength);
     }
     if not_sealed(finish, sealed) {
-        return 3;
+        return Err(Refusal::Length);
     }
     if tags::prepare::zero_mask(key, &sealed[..16]) {
-        return 10;
+        return Err(Refusal::ZeroMask);
     }
-    0
+    Ok(())
 }

@@ -3,9 +3,11 @@ use mathlib.Core.Path.{◌≡◌, refl, sym, ap, ap₂, ◌∙◌}
 use mathlib.Core.List.{List, [], ◌∷◌, ◌++◌}
 use Prim.Native.Nat.{ℕ, suc, ◌+◌, ◌*◌, ◌/◌, ◌%◌, ◌<◌}
 use native.Mathlib.Omega.{arith}
+use mir.Syntax.{w32}
+use Rattle.std.specs.Int.{from_be_bytes, to_be_bytes}
 use lib.ListN.{length, get_or, take, drop, length-drop}
 use lib.Seq.{take_all, drop-drop, drop-cons}
-use Rattle.blocks.specs.Bytes.{Bytes, zeros}
+use Rattle.blocks.specs.Bytes.{Bytes}
 use Rattle.blocks.specs.Words.{Proper, bytes_of, words_of}
 use Rattle.blocks.proofs.Chunks.{bytes_drop}
 use Rattle.blocks.proofs.Bridge.{block-bytes_of, bytes_words, words_bytes}
@@ -69,13 +71,24 @@ encoded-decoded b e h =
     byte : (i : ℕ) → i < length b → {rest : List ℕ} → drop (suc i) b ≡ rest → drop i b ≡ get_or b i 0 ∷ rest
     byte i l t = drop-cons b i 0 l ∙ ap (λ (x : List ℕ). get_or b i 0 ∷ x) t
 
--- ---- as the code writes it: a block with the numbers, and the pre-authenticator over its end
+-- ---- as the code reads and writes it
 
-pub encoded_there : (r : RunRecord) (old between new front : List ℕ) → front ≡ number_bytes r.first ++ number_bytes r.count ++ zeros 8
-    → between ≡ take 0 old ++ front ++ drop (0 + 16) old → new ≡ take 8 between ++ bytes_of r.preauthenticator ++ drop (8 + 16) between
+-- a number as std reads it
+pub number_read : (a b c d n : ℕ) → n ≡ from_be_bytes w32 (a ∷ b ∷ c ∷ d ∷ []) → n ≡ number_of a b c d
+number_read a b c d n e = omega (arith, e)
+
+-- and writes it
+pub number_written : (n : ℕ) → to_be_bytes w32 n ≡ number_bytes n
+unfolding number_bytes
+number_written n = refl
+
+-- the two numbers, one after the other, and the pre-authenticator behind them
+pub encoded_there : (r : RunRecord) (old one two new x y : List ℕ) → x ≡ number_bytes r.first → y ≡ number_bytes r.count
+    → one ≡ take 0 old ++ x ++ drop (0 + length x) old → two ≡ take 4 one ++ y ++ drop (4 + length y) one → new ≡ take 8 two ++ bytes_of r.preauthenticator ++ drop (8 + 16) two
     → new ≡ encoded r ++ drop 24 old
 unfolding encoded number_bytes
-encoded_there r old between new front ef eb en =
-    let e = eb ∙ ap (λ (x : List ℕ). x ++ drop 16 old) ef in
-    en ∙ ap (λ (x : List ℕ). take 8 x ++ bytes_of r.preauthenticator ++ drop 24 x) e
-    ∙ ap (λ (x : List ℕ). number_bytes r.first ++ number_bytes r.count ++ bytes_of r.preauthenticator ++ x) (drop-drop 8 16 old)
+encoded_there r old one two new x y ex ey e1 e2 en =
+    let f1 = e1 ∙ ap (λ (x : List ℕ). x ++ drop (0 + length x) old) ex in
+    let f2 = e2 ∙ ap₂ (λ (one y : List ℕ). take 4 one ++ y ++ drop (4 + length y) one) f1 ey in
+    en ∙ ap (λ (x : List ℕ). take 8 x ++ bytes_of r.preauthenticator ++ drop 24 x) f2
+    ∙ ap (λ (x : List ℕ). number_bytes r.first ++ number_bytes r.count ++ bytes_of r.preauthenticator ++ x) (ap (drop 16) (drop-drop 4 4 old) ∙ drop-drop 16 8 old)

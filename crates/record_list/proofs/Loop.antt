@@ -1,30 +1,30 @@
 -- A loop over a list of records, one record joined on at each turn.
 use mathlib.Core.Path.{◌≡◌, refl, sym, ap, subst, ◌∙◌}
-use mathlib.Core.Bool.{Bool, true, false, cond, ◌&&◌}
+use mathlib.Core.Bool.{Bool, true, false, cond}
 use mathlib.Core.List.{List}
 use Prim.Native.Nat.{ℕ, ◌+◌, ◌≤◌, ◌<◌, ◌^◌}
 use native.Mathlib.Omega.{arith}
 use native.Mathlib.Numerals.{add-one}
-use lib.Dec.{eqb}
 use lib.ListN.{length, get_or, drop, drop_of_length-le}
 use lib.Seq.{drop-cons}
 use Rattle.mode.specs.Mode.{in_words}
 use Rattle.mode.specs.declared.RunRecord.{RunRecord}
-use Rattle.mode.specs.declared.RecordAnswer.{RecordAnswer}
+use Rattle.std.specs.Prelude.{Result, Ok, Err}
+use Rattle.mode.specs.declared.refusal.Refusal.{Refusal}
 use Rattle.mode.specs.declared.power.LastPower.{LastPower}
 use Rattle.mode.specs.declared.KeptAnswer.{KeptAnswer}
 use Rattle.mode.specs.Table.{Answer, refused, given}
 use Rattle.mode.specs.Calls.{join_two}
-use Rattle.mode.specs.Powers.{no_power, IsPower, Keeps, worked_out, power_for, kept_after, join_keeping}
+use Rattle.mode.specs.Powers.{no_power, IsPower, Keeps, worked_out, is_kept, power_for, kept_after, join_keeping}
 use Rattle.mode.proofs.Powers.{keeps_none, worked_right}
-use Rattle.record_list.specs.Onto.{kept, started, unjoined, onto_of, onto_all}
+use Rattle.record_list.specs.Onto.{started, onto_answer, onto_of, onto_all}
 use Rattle.record_list.specs.Counted.{Counted, powers_of, joined_front}
 use Rattle.record_list.proofs.Fold.{list_joined}
 use Rattle.record_list.proofs.Powers.{total_powers, whole-front}
 
 -- the kept power is the variable to its count, and no more were worked out than records were joined on
 pub record Right (i : ℕ) (k : LastPower) : Type 0 where
-  pub right : IsPower k
+  pub right : IsPower k.kept
   pub few : k.total ≤ i
 
 -- what the join asks of it
@@ -43,24 +43,24 @@ module _ (i : ℕ) where
 
   right_for : (k : LastPower) (n : ℕ) → Right i k → Right (i + 1) (power_for k n)
   unfolding power_for worked_out
-  right_for k n h = by (k.some && eqb k.count n)
+  right_for k n h = by (is_kept k.kept n)
     where
       by : (b : Bool) → Right (i + 1) (cond b k (worked_out k n))
       by true = right_later k h
-      by false = record { right = λ e. worked_right k n; few = let f = h.few in omega arith }
+      by false = record { right = worked_right n; few = let f = h.few in omega arith }
 
   right_after : (a : Answer RunRecord) (k : LastPower) (n : ℕ) → Right i k → Right (i + 1) (kept_after a k n)
   unfolding kept_after
   right_after (refused m) k n h = right_later k h
   right_after (given r) k n h = right_for k n h
 
+  right_answer : (a : Result RunRecord Refusal) (k : LastPower) (r : RunRecord) → Right i k → Right (i + 1) (onto_answer a k r).last
+  unfolding onto_answer join_keeping
+  right_answer (Ok run) k r h = right_after (join_two in_words run r) k r.count h
+  right_answer (Err refusal) k r h = right_later k h
+
   pub right_onto : (s : KeptAnswer) (r : RunRecord) → Right i s.last → Right (i + 1) (onto_of s r).last
-  unfolding onto_of join_keeping
-  right_onto s r h = by (eqb s.answer.refusal 0)
-    where
-      by : (b : Bool) → Right (i + 1) (cond b (join_keeping s.answer.run r s.last) (kept (unjoined s.answer.refusal r) s.last)).last
-      by true = right_after (join_two in_words s.answer.run r) s.last r.count h
-      by false = right_later s.last h
+  right_onto s r h = right_answer s.answer s.last r h
 
 -- ---- the loop's invariant
 
@@ -93,6 +93,6 @@ module _ (rs : List RunRecord) where
         let t = ap (λ (z : KeptAnswer). z.last.total) f ∙ total_powers (joined_front rs) in
         record {
           answer = a;
-          joined = λ g. t ∙ ap powers_of (whole-front rs (sym (ap (λ (z : RecordAnswer). z.refusal) a) ∙ g));
+          joined = λ g. t ∙ ap powers_of (whole-front rs (sym a ∙ g));
           front = t;
         }

@@ -3,20 +3,21 @@ use mathlib.Core.Path.{◌≡◌, ap, ◌∙◌}
 use mathlib.Core.Bool.{Bool, true, false, cond, ◌||◌}
 use mathlib.Core.List.{List, [], ◌∷◌}
 use borrow.Author.Tests.{eq-eqb, ne_eqb}
+use Rattle.std.specs.Prelude.{Ok}
 use Rattle.mode.specs.Mode.{in_words}
 use Rattle.mode.specs.declared.RunRecord.{RunRecord}
 use Rattle.mode.specs.declared.KeptAnswer.{KeptAnswer}
 use Rattle.mode.specs.Table.{beyond, apart}
-use Rattle.mode.specs.Calls.{join_list, record_answer_of}
+use Rattle.mode.specs.Calls.{join_list, record_of_answer}
 use Rattle.record_list.specs.Counted.{changes, powers_of, following, joined_front, Counted}
 
 -- the answer is that of the call
-pub answers : (rs : List RunRecord) (a : KeptAnswer) → Counted rs a → a.answer ≡ record_answer_of (join_list in_words rs)
+pub answers : (rs : List RunRecord) (a : KeptAnswer) → Counted rs a → a.answer ≡ record_of_answer (join_list in_words rs)
 answers rs a c = c.answer
 
 -- ---- a list that is joined
 
-module _ (a : KeptAnswer) (given : a.answer.refusal ≡ 0) where
+module _ (a : KeptAnswer) (x : RunRecord) (given : a.answer ≡ Ok x) where
   -- a list of one works out none; a second record works out one, of no block too
   pub one-record : (l : RunRecord) → Counted (l ∷ []) a → a.last.total ≡ 0
   unfolding powers_of

@@ -1,10 +1,10 @@
 -- Ticket P2: how many powers of the variable are worked out while a list is joined.
-use Rattle.std.specs.Prelude.{◌≡◌, cond, ◌||◌, List, [], ◌∷◌, ℕ, ◌+◌, eqb}
+use Rattle.std.specs.Prelude.{Ok, ◌≡◌, cond, ◌||◌, List, [], ◌∷◌, ℕ, ◌+◌, eqb}
 use Rattle.mode.specs.Mode.{in_words}
 use Rattle.mode.specs.declared.RunRecord.{RunRecord}
 use Rattle.mode.specs.declared.KeptAnswer.{KeptAnswer}
 use Rattle.mode.specs.Table.{beyond, apart}
-use Rattle.mode.specs.Calls.{join_list, record_answer_of}
+use Rattle.mode.specs.Calls.{join_list, record_of_answer}
 
 -- one for each record whose count differs from that of the record before it; the first stands after one of `count` blocks
 unfoldable pub changes : ℕ → List RunRecord → ℕ
@@ -31,6 +31,6 @@ joined_front (l ∷ rs) = cond (beyond l.first l.count) [] (l ∷ following l rs
 -- A LIST, JOINED: the answer of the call, and the powers that were worked out for it. Of a list that is refused they are those of the front
 -- that was joined.
 pub record Counted (rs : List RunRecord) (a : KeptAnswer) : Type 0 where
-  pub answer : a.answer ≡ record_answer_of (join_list in_words rs)
-  pub joined : a.answer.refusal ≡ 0 → a.last.total ≡ powers_of rs
+  pub answer : a.answer ≡ record_of_answer (join_list in_words rs)
+  pub joined : {r : RunRecord} → a.answer ≡ Ok r → a.last.total ≡ powers_of rs
   pub front : a.last.total ≡ powers_of (joined_front rs)

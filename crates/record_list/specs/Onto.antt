@@ -1,39 +1,39 @@
 -- A list of records, joined one after the other.
-use Rattle.std.specs.Prelude.{cond, List, [], ◌∷◌, ℕ, eqb}
+use Rattle.std.specs.Prelude.{cond, List, [], ◌∷◌, Result, Ok, Err}
 use Rattle.mode.specs.declared.RunRecord.{RunRecord}
-use Rattle.mode.specs.declared.RecordAnswer.{RecordAnswer}
 use Rattle.mode.specs.declared.power.LastPower.{LastPower}
 use Rattle.mode.specs.declared.KeptAnswer.{KeptAnswer}
 use Rattle.mode.specs.Table.{beyond}
-use Rattle.mode.specs.Calls.{refused_record}
+use Rattle.mode.specs.declared.refusal.Refusal.{Refusal}
+use Rattle.mode.specs.declared.refusal.Refusal.TheVariants.{BeyondLimit, NotNeighbours, NotWhole}
 use Rattle.mode.specs.Powers.{no_power, join_keeping}
 
 -- an answer, and the power that is kept with it
-abbrev pub kept : RecordAnswer → LastPower → KeptAnswer
+abbrev pub kept : Result RunRecord Refusal → LastPower → KeptAnswer
 kept answer last = record { answer = answer; last = last }
 
 -- before the first record: 9, the refusal of an empty list
 abbrev pub started : KeptAnswer
-started = kept (refused_record 9) no_power
-
--- the answer to one record
-abbrev pub alone : RunRecord → RecordAnswer
-alone r = record { refusal = 0; run = r }
+started = kept (Err NotWhole) no_power
 
 -- 4 where this record is beyond the limit
-unfoldable pub unless_beyond : RunRecord → RecordAnswer → RecordAnswer
-unless_beyond next answer = cond (beyond next.first next.count) (refused_record 4) answer
+unfoldable pub unless_beyond : RunRecord → Result RunRecord Refusal → Result RunRecord Refusal
+unless_beyond next answer = cond (beyond next.first next.count) (Err BeyondLimit) answer
 
 -- One record more where none was given so far. 8, which stands below 4 in the table, gives way to 4 of this record. So does 9, no record yet;
--- else this record is the answer. Every other refusal stands, whatever this record is: 4, and a number that joining does not give.
-unfoldable pub unjoined : ℕ → RunRecord → RecordAnswer
-unjoined refusal next =
-    cond (eqb refusal 8) (unless_beyond next (refused_record 8)) (cond (eqb refusal 9) (unless_beyond next (alone next)) (refused_record refusal))
+-- else this record is the answer. Every other refusal stands, whatever this record is: 4, and one that joining does not give.
+unfoldable pub unjoined : Refusal → RunRecord → Result RunRecord Refusal
+unjoined NotNeighbours next = unless_beyond next (Err NotNeighbours)
+unjoined NotWhole next = unless_beyond next (Ok next)
+unjoined refusal next = Err refusal
 
--- One record more, by the refusal so far. 0: it is joined on, with the power that is kept.
-unfoldable pub onto_of : KeptAnswer → RunRecord → KeptAnswer
-onto_of so_far next =
-    cond (eqb so_far.answer.refusal 0) (join_keeping so_far.answer.run next so_far.last) (kept (unjoined so_far.answer.refusal next) so_far.last)
+-- One record more, by the answer so far. Where that is a record, it is joined on, with the power that is kept.
+unfoldable pub onto_answer : Result RunRecord Refusal → LastPower → RunRecord → KeptAnswer
+onto_answer (Ok run) last next = join_keeping run next last
+onto_answer (Err refusal) last next = kept (unjoined refusal next) last
+
+abbrev pub onto_of : KeptAnswer → RunRecord → KeptAnswer
+onto_of so_far next = onto_answer so_far.answer so_far.last next
 
 -- each record of a list in turn
 unfoldable pub onto_all : KeptAnswer → List RunRecord → KeptAnswer

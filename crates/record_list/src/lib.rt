@@ -3,50 +3,45 @@
 // is the same.
 ghost use Rattle.std.specs.Prelude.{◌≡◌};
 ghost use Rattle.mode.specs.Mode.{in_words};
-ghost use Rattle.mode.specs.Calls.{join_list, record_answer_of};
+ghost use Rattle.mode.specs.Calls.{join_list, record_of_answer};
 ghost use Rattle.mode.specs.Powers.{Keeps};
 ghost use Rattle.record_list.specs.Onto.{started, unless_beyond, unjoined as unjoined_of, onto_of};
 ghost use Rattle.record_list.specs.Counted.{Counted};
 
 use mode::power::LastPower;
-use mode::{KeptAnswer, RecordAnswer, RunRecord};
+use mode::{KeptAnswer, Refusal, RunRecord};
 
 // The answer, or 4 where this record is beyond the limit.
-fn unless_beyond(next: RunRecord, answer: RecordAnswer) -> RecordAnswer
+fn unless_beyond(next: RunRecord, answer: Result<RunRecord, Refusal>) -> Result<RunRecord, Refusal>
     ensures { result ≡ unless_beyond next answer }
 {
     let end = next.first as u64 + next.count as u64;
     if mode::LIMIT < end {
-        return mode::refused(4);
+        return Err(Refusal::BeyondLimit);
     }
     answer
 }
 
 // One record more where there is none to join it to: after 9 it is the first, after 8 an earlier pair did not adjoin. Row 4 of this record
 // beats both. Any other refusal stands as it is.
-fn unjoined(refusal: u8, next: RunRecord) -> RecordAnswer
+fn unjoined(refusal: Refusal, next: RunRecord) -> Result<RunRecord, Refusal>
     ensures { result ≡ unjoined_of refusal next }
 {
-    if refusal == 8 {
-        return unless_beyond(next, mode::refused(8));
+    match refusal {
+        Refusal::NotNeighbours => unless_beyond(next, Err(Refusal::NotNeighbours)),
+        Refusal::NotWhole => unless_beyond(next, Ok(next)),
+        _ => Err(refusal),
     }
-    if refusal == 9 {
-        let alone = RecordAnswer {
-            refusal: 0,
-            run: next,
-        };
-        return unless_beyond(next, alone);
-    }
-    mode::refused(refusal)
 }
 
 // Before the first record: refusal 9, and no power is kept.
 pub fn start() -> KeptAnswer
     ensures { result ≡ started }
 {
-    let answer = mode::refused(9);
-    let last = LastPower::none();
-    KeptAnswer { answer, last }
+    KeptAnswer {
+        answer: Err(Refusal::NotWhole),
+        last: LastPower::none(),
+    }
 }
 
 // One record more: `so_far` is the answer to the records before it.
@@ -54,15 +49,13 @@ pub fn onto(so_far: KeptAnswer, next: RunRecord) -> KeptAnswer
     requires { Keeps so_far.last }
     ensures { result ≡ onto_of so_far next }
 {
-    let before = so_far.answer;
-    let last = so_far.last;
-    let refusal = before.refusal;
-    if refusal == 0 {
-        let run = before.run;
-        return run.join_keeping(next, last);
+    match so_far.answer {
+        Ok(run) => run.join_keeping(next, so_far.last),
+        Err(refusal) => KeptAnswer {
+            answer: unjoined(refusal, next),
+            last: so_far.last,
+        },
     }
-    let answer = unjoined(refusal, next);
-    KeptAnswer { answer, last }
 }
 
 // The list joined, in message order, and the powers of x that were worked out for it.
@@ -70,19 +63,15 @@ fn join_counted(records: &[RunRecord]) -> KeptAnswer
     ensures { Counted records.now result }
 {
     let mut so_far = start();
-    let mut i: usize = 0;
-    while i < records.len() {
-        let next = records[i];
-        so_far = onto(so_far, next);
-        i += 1;
+    for next in records {
+        so_far = onto(so_far, *next);
     }
     so_far
 }
 
 // THE CALL: a lent list joined, in message order.
-pub fn join_list(records: &[RunRecord]) -> RecordAnswer
-    ensures { result ≡ record_answer_of (join_list in_words records.now) }
+pub fn join_list(records: &[RunRecord]) -> Result<RunRecord, Refusal>
+    ensures { result ≡ record_of_answer (join_list in_words records.now) }
 {
-    let counted = join_counted(records);
-    counted.answer
+    join_counted(records).answer
 }

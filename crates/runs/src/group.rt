@@ -17,18 +17,15 @@ fn padded_block(rest: &[u8]) -> Words
 {
     let mut block = [0u8; 16];
     let end = rest.len();
-    for i in 0..end {
-        block[i] = rest[i];
-    }
+    block[..end].copy_from_slice(rest);
     block[end] = 0x80;
-    blocks::words::from_bytes(block)
+    Words::from(block)
 }
 
 // n blocks of a text with its padding.
 fn load_text(text: &[u8], n: usize, group: &mut [u64; groups::WORDS])
     requires n_bound { n ≤ 32 }
     requires n_in_bounds { n ≤ length text.now / 16 + 1 }
-    requires group_len { length group.old ≡ 64 }
     ensures { Holds n (block_of (padded text.now)) group.new }
 {
     let whole = text.len() / 16;
@@ -49,21 +46,17 @@ fn mask_each(
     group: &mut [u64; groups::WORDS],
     masks: &mut [u64; groups::WORDS],
 ) -> Words
-    requires n_bound { n ≤ 32 }
-    requires group_len { length group.old ≡ 64 }
-    requires masks_len { length masks.old ≡ 64 }
+    requires { n ≤ 32 }
     ensures { Masked n (block_at group.old) (bytes_of mask) group.new masks.new (bytes_of result) }
 {
     let mut m = mask;
-    let mut i: usize = 0;
-    while i < n {
+    for i in 0..n {
         let block = groups::get(group, i);
-        let masked = blocks::words::xor(block, m);
+        let masked = block ^ m;
         groups::put(group, i, masked);
         groups::put(masks, i, m);
         let next = gf128::times_x(m);
         m = next;
-        i += 1;
     }
     m
 }
@@ -78,8 +71,6 @@ pub(crate) fn load(
 ) -> Words
     requires n_bound { n ≤ 32 }
     requires n_in_bounds { n ≤ length text.now / 16 + 1 }
-    requires group_len { length group.old ≡ 64 }
-    requires masks_len { length masks.old ≡ 64 }
     ensures { Masked n (block_of (padded text.now)) (bytes_of mask) group.new masks.new (bytes_of result) }
 {
     load_text(text, n, group);
@@ -94,13 +85,11 @@ pub(crate) fn take_up(preauthenticator: Words, middle: &[u64; groups::WORDS], n:
     ensures { bytes_of result ≡ taken_up n (block_at middle.now) (bytes_of preauthenticator) }
 {
     let mut p = preauthenticator;
-    let mut i: usize = 0;
-    while i < n {
+    for i in 0..n {
         let moved = gf128::times_x(p);
         let added = groups::get(middle, i);
-        let next = blocks::words::xor(moved, added);
+        let next = moved ^ added;
         p = next;
-        i += 1;
     }
     p
 }
@@ -115,7 +104,6 @@ pub(crate) fn store(
     out: &mut [u8],
 )
     requires n_bound { n ≤ 32 }
-    requires group_len { length group.old ≡ 64 }
     requires n_in_bounds { n * 16 ≤ length out.old }
     ensures { out.new ≡ in_front n (λ i. xor_bytes (block_at group.old i) (block_at masks.now i)) out.old }
 {

@@ -11,7 +11,8 @@ ghost use Rattle.runs.specs.Run.{ran, Ran, Room};
 
 use blocks::words::Words;
 
-// What is done with the blocks of a text: plaintext is sealed, ciphertext opened, or only checked.
+// What is done with the blocks of a text: plaintext is sealed, ciphertext opened, or only checked. It is an enum and no closure, since `ran`
+// (specs/Run.antt) and all that is proved of a run over it go by it.
 #[derive(Clone, Copy)]
 pub enum Task {
     Seal,
@@ -36,8 +37,6 @@ fn through(
     n: usize,
     keys: &[u8; cipher::KEYS],
 )
-    requires group_len { length group.old ≡ 64 }
-    requires middle_len { length middle.old ≡ 64 }
     requires n_bound { n ≤ 32 }
     requires expanded { Expanded keys.now }
     ensures { Through task n (key_of keys.now) group.old group.new middle.new }
@@ -71,7 +70,6 @@ fn put(
     at: usize,
     out: &mut [u8],
 )
-    requires group_len { length group.old ≡ 64 }
     requires n_bound { n ≤ 32 }
     requires room { Room (writes_of task) (at + n * 16) (length out.old) }
     ensures { Stored task n group.old masks.now at out.old out.new }
@@ -133,6 +131,7 @@ pub fn run(
         mask,
         preauthenticator: Words { high: 0, low: 0 },
     };
+    // Counted by hand: a step is as long as the group that it takes, and `step_by` would end behind the last block.
     let mut i: usize = 0;
     while i < count {
         let n = groups::in_group(count - i);

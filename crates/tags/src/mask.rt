@@ -17,10 +17,10 @@ pub fn start_mask(iv: [u8; 16], keys: &[u8; cipher::KEYS]) -> Words
     let block = blocks::block::xor(iv, key);
     let encrypted = cipher::encrypt_block(block, keys);
     let sum = blocks::block::xor(encrypted, key);
-    if blocks::block::equal(sum, [0u8; 16]) {
-        return blocks::words::from_bytes(key);
+    if blocks::bytes::equal(&sum, &[0u8; 16]) {
+        return Words::from(key);
     }
-    blocks::words::from_bytes(sum)
+    Words::from(sum)
 }
 
 // Step 3: the encryption of (pre-authenticator plus the mask after the last block), plus the pre-authenticator.
@@ -28,9 +28,7 @@ pub fn encrypted_tag(preauthenticator: Words, mask: Words, keys: &[u8; cipher::K
     requires { Expanded keys.now }
     ensures { result ≡ encrypted_tag aes (key_of keys.now) (bytes_of preauthenticator) (bytes_of mask) }
 {
-    let sum = blocks::words::xor(preauthenticator, mask);
-    let block = blocks::words::to_bytes(sum);
-    let encrypted = cipher::encrypt_block(block, keys);
-    let added = blocks::words::to_bytes(preauthenticator);
-    blocks::block::xor(encrypted, added)
+    let sum = preauthenticator ^ mask;
+    let encrypted = cipher::encrypt_block(sum.into(), keys);
+    blocks::block::xor(encrypted, preauthenticator.into())
 }

@@ -34,10 +34,10 @@ pub fn zero_mask(key: &[u8], iv: &[u8]) -> bool
     ensures { result ≡ zero_mask aes key.now iv.now }
 {
     let k = blocks::block::load(key, 0);
-    if !blocks::block::equal(k, [0u8; 16]) {
+    if !blocks::bytes::equal(&k, &[0u8; 16]) {
         return false;
     }
     let p = prepare(key, iv);
-    let start = blocks::words::to_bytes(p.start);
-    blocks::block::equal(start, [0u8; 16])
+    let start = <[u8; 16]>::from(p.start);
+    blocks::bytes::equal(&start, &[0u8; 16])
 }

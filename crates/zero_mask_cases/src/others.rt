@@ -3,24 +3,26 @@ ghost use Rattle.std.specs.Prelude.{◌≤◌};
 
 use crate::pair;
 use case_records::answer::{answered, written};
-use case_text::bytes::{flip, one_if};
-use case_text::hex::bytes_at;
-use case_text::random::noise;
-use case_tools::open::answers;
+use case_records::keyed::Keyed;
+use case_text::agreed;
+use case_text::bytes::flip;
+use case_text::hex::bytes;
+use case_tools::open::opens;
+use mode::Refusal;
 use mode::finish::Finish;
 
 // The record of a message, in digits: sealed and opened again.
 fn both_ways(key: &[u8], iv: [u8; 16], digits: &[u8; 128]) -> usize
     ensures { result ≤ 2 }
 {
-    let mut record = [0u8; 64];
-    bytes_at(digits, 0, 64, &mut record);
+    let record: [u8; 64] = bytes(digits);
     let message = b"twenty bytes of list";
     let mut sealed = [0u8; 80];
-    noise(&mut sealed);
-    let w = calls::seal::seal(Finish::Cipher, key, &iv, message, &mut sealed);
-    let mut out = [0u8; 64];
-    one_if(answered(w, 0, &record, &sealed)) + answers(key, &record, &mut out, 0, message)
+    let given = Keyed { key, iv: &iv }.seal(Finish::Cipher, message, &mut sealed);
+    agreed(&[
+        answered(given, Ok(&record), &sealed),
+        opens(Finish::Cipher, key, &record, &mut [0u8; 64], Ok(message)),
+    ])
 }
 
 // A key, and its IV with the last bit flipped.
@@ -28,7 +30,7 @@ fn flipped(key: &[u8], digits: &[u8; 128]) -> usize
     ensures { result ≤ 2 }
 {
     let mut iv = pair::iv_of(key);
-    iv[15] = iv[15] ^ 1;
+    iv[15] ^= 1;
     both_ways(key, iv, digits)
 }
 
@@ -76,49 +78,36 @@ pub fn another_key() -> usize {
     )
 }
 
-// What an empty message under the key of which the first half is zero gets, in an output that held noise.
-fn empty_gets(iv: [u8; 16], refusal: u8, size: usize) -> usize
-    ensures { result ≤ 1 }
-{
-    let key = pair::half_zero();
+// ---- an empty message, in an output that held noise
+
+// What it gets under a key and an IV: a refusal, or a record of `size` bytes.
+fn empty_gets(key: &[u8], iv: [u8; 16], outcome: Result<(), Refusal>, size: usize) -> bool {
     let mut out = [0u8; 64];
-    noise(&mut out);
-    let w = calls::seal::seal(Finish::Cipher, &key, &iv, b"", &mut out);
-    one_if(written(w, refusal, size, &out))
+    let given = Keyed { key, iv: &iv }.seal(Finish::Cipher, b"", &mut out);
+    written(given, outcome, size, &out)
 }
 
-// It is refused under its own IV, and sealed under those of the zero keys.
+// Under the key of which the first half is zero it is refused under its own IV, and sealed under those of the zero keys.
 pub fn half_zero() -> usize {
     let zeros = [0u8; 32];
     let key = pair::half_zero();
-    empty_gets(pair::iv_of(&key), 10, 0)
-        + empty_gets(pair::iv_of(&zeros), 0, 48)
-        + empty_gets(pair::iv_of(&zeros[0..16]), 0, 48)
+    agreed(&[
+        empty_gets(&key, pair::iv_of(&key), Err(Refusal::ZeroMask), 0),
+        empty_gets(&key, pair::iv_of(&zeros), Ok(()), 48),
+        empty_gets(&key, pair::iv_of(&zeros[..16]), Ok(()), 48),
+    ])
 }
 
-// An empty message under the zero key of a length and an IV.
-fn sealed(key: usize, iv: [u8; 16]) -> usize
-    requires { key ≤ 32 }
-    ensures { result ≤ 1 }
-{
-    let zeros = [0u8; 32];
-    let mut out = [0u8; 64];
-    noise(&mut out);
-    let w = calls::seal::seal(Finish::Cipher, &zeros[0..key], &iv, b"", &mut out);
-    one_if(written(w, 0, 48, &out))
+// An IV with a bit flipped.
+fn with_bit(iv: [u8; 16], bit: usize) -> [u8; 16] {
+    let mut other = iv;
+    flip(&mut other, bit / 8, 1 << (bit % 8));
+    other
 }
 
-// Its IV with each of its bits flipped in turn.
-pub fn other_ivs(key: usize) -> usize
-    requires { key ≤ 32 }
-{
-    let zeros = [0u8; 32];
-    let iv = pair::iv_of(&zeros[0..key]);
-    let mut agreed: usize = 0;
-    for i in 0..128 {
-        let mut other = iv;
-        other[i / 8] = other[i / 8] ^ (1 << (i % 8));
-        agreed += sealed(key, other);
-    }
-    agreed
+// Under a zero key it is sealed, under the key's IV with each of its bits flipped in turn.
+pub fn other_ivs(key: &[u8]) -> usize {
+    (0..128)
+        .filter(|bit| empty_gets(key, with_bit(pair::iv_of(key), *bit), Ok(()), 48))
+        .count()
 }

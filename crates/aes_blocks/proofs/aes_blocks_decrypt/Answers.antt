@@ -1,7 +1,5 @@
 -- The call in this direction.
-use Rattle.aes_blocks.specs.Direction.{cipher_of}
 use Rattle.aes_blocks.proofs.aes_blocks_decrypt.Goals as goal
 
-pub returns : goal.returns
-unfolding cipher_of
-returns c = c.call.ensures
+pub returns-clause-output : goal.returns-clause-output
+returns-clause-output c = c.call.ensures.output

@@ -1,19 +1,9 @@
 -- Whatever two engines give of the same blocks is the same.
-use mathlib.Core.Path.{◌∙◌}
+use mathlib.Core.Path.{refl}
 use Rattle.engines.proofs.Engines.{engines_equal}
-use Rattle.engines.proofs.Found.{copies_agree, blocks-same}
 use Rattle.engines.proofs.deciphered.Goals as goal
 
-pub returns-then-same_blocks : goal.returns-then-same_blocks
-returns-then-same_blocks c =
-    let a = c.args in
-    c.same_blocks-then-same_blocks.ensures
-    ∙ blocks-same a.n
-    (engines_equal.backwards a.n _ _ _ _ _ _ _ (copies_agree a.n a.group.now c.copy.ensures c.copy-2.ensures) c.decrypt.ensures c.decrypt-2.ensures).0
-
-pub returns-else-same_blocks : goal.returns-else-same_blocks
-returns-else-same_blocks c =
-    let a = c.args in
-    c.same_blocks.ensures
-    ∙ blocks-same a.n
-    (engines_equal.backwards a.n _ _ _ _ _ _ _ (copies_agree a.n a.group.now c.copy.ensures c.copy-2.ensures) c.decrypt.ensures c.decrypt-2.ensures).1
+pub returns : goal.returns
+returns c =
+    let a = engines_equal.backwards c.args.n _ _ _ _ _ _ _ (record { at = λ i l. refl }) c.decipher-one.ensures c.decipher-other.ensures in
+    c.agrees.ensures a.1 a.0

@@ -14,5 +14,5 @@ returns c =
     let d = c.args.distance in
     c.jump_towards.ensures
     ∙ ap (λ (e : ℤ). jump_by e (bytes_of c.args.b))
-    (ap (λ (z : ℤ). signed (lt_z z (pos 0)) c.magnitude-n.result) (to_z-of_z w32 d c.ranges.distance)
-    ∙ ap (signed (lt_z d (pos 0))) (c.magnitude-n.ensures ∙ ap nat_abs (to_z-of_z w32 d c.ranges.distance)) ∙ signed_all d)
+    (ap (λ (z : ℤ). signed (lt_z z (pos 0)) c.unsigned_abs.result) (to_z-of_z w32 d c.ranges.distance)
+    ∙ ap (signed (lt_z d (pos 0))) (c.unsigned_abs.ensures.value ∙ ap nat_abs (to_z-of_z w32 d c.ranges.distance)) ∙ signed_all d)

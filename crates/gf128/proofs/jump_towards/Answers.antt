@@ -15,5 +15,5 @@ returns-then-n-eq0 c = let a = c.args in sym (no_step a.back a.n (bytes_of a.b) 
 pub returns : goal.returns
 returns c =
     let a = c.args in
-    c.multiply.ensures ∙ ap (λ (p : List ℕ). product p (bytes_of a.b)) c.power-p.ensures
+    c.multiply.ensures ∙ ap (λ (p : List ℕ). product p (bytes_of a.b)) c.power.ensures
     ∙ product-power (signed a.back a.n) (bytes_of a.b) (block-bytes_of a.b)

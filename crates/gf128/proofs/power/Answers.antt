@@ -10,25 +10,13 @@ use Rattle.gf128.proofs.power.Goals as goal
 
 pub loop-left-init : goal.loop-left-init
 unfolding power_of jump_by jump one bytes_of low_bytes
-loop-left-init c = let e : 0 ≡ c.args.n / 4294967296 = omega arith in (omega arith, ap power_of (sym (signed-none c.args.back) ∙ ap (signed c.args.back) e))
+loop-left-init c = let e : 0 ≡ c.args.n / 4294967296 = omega arith in ap power_of (sym (signed-none c.args.back) ∙ ap (signed c.args.back) e)
 
-pub overflow_sub-left : goal.overflow_sub-left
-overflow_sub-left c = omega arith
-
-pub overflow_shr-n : goal.overflow_shr-n
-overflow_shr-n c = omega arith
-
-pub take_power-next-requires : goal.take_power-next-requires
-take_power-next-requires c =
+pub take_power-q-requires : goal.take_power-q-requires
+take_power-q-requires c =
     let l = c.loop-left in
     let h : 0 < l.left = omega arith in
-    l.invariant.1 ∙ ap (λ (k : ℕ). power_of (signed c.args.back k)) (sym (one_bit_less c.args.n l.left h))
-
-pub loop-left-smaller : goal.loop-left-smaller
-loop-left-smaller c = omega arith
-
-pub loop-left-preserved : goal.loop-left-preserved
-loop-left-preserved c = (omega arith, c.take_power-next.ensures)
+    l.invariant ∙ ap (λ (k : ℕ). power_of (signed c.args.back k)) (sym (one_bit_less c.args.n l.left h))
 
 pub returns : goal.returns
 returns c =
@@ -37,4 +25,4 @@ returns c =
     let back = c.args.back in
     let e : l.left ≡ 0 = omega arith in
     let d : n / 1 ≡ n = omega arith in
-    l.invariant.1 ∙ ap (λ (k : ℕ). power_of (signed back (n / 2 ^ k))) e ∙ ap (λ (k : ℕ). power_of (signed back k)) d
+    l.invariant ∙ ap (λ (k : ℕ). power_of (signed back (n / 2 ^ k))) e ∙ ap (λ (k : ℕ). power_of (signed back k)) d

@@ -1,15 +1,11 @@
 -- The bits from the highest one down, from nothing.
 use borrow.Author.Rules.{rules}
-use lib.Count.{leading_le}
 use mir.Syntax.{w64}
 use mir.Val.{Fits}
 use Rattle.blocks.specs.Num.{num}
 use Rattle.blocks.specs.Words.{bytes_of}
 use Rattle.gf128.proofs.Horner.{word_first}
 use Rattle.gf128.proofs.times_word.Goals as goal
-
-pub overflow_sub-bits : goal.overflow_sub-bits
-overflow_sub-bits c = leading_le 64 _
 
 pub returns : goal.returns
 returns c =

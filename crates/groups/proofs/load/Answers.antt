@@ -1,10 +1,7 @@
 use borrow.Author.Rules.{rules}
 use Rattle.groups.specs.Group.{block_of}
-use Rattle.groups.proofs.Loop.{begins, turn, ends}
+use Rattle.groups.proofs.Loop.{turn}
 use Rattle.groups.proofs.load.Goals as goal
-
-pub loop-i-init : goal.loop-i-init
-loop-i-init c = (search rules, begins _ _ c.requires.group_len)
 
 pub loop-i-preserved : goal.loop-i-preserved
 unfolding block_of
@@ -12,6 +9,3 @@ loop-i-preserved c = (
   search rules,
   turn _ c.loop-i.i _ c.loop-i.group c.put.new.group _ c.loop-i.invariant.1 c.put.ensures c.load-w.ensures,
 )
-
-pub returns : goal.returns
-returns c = ends _ c.loop-i.i _ _ _ c.loop-i.invariant.1 c.loop-i-test.false

@@ -1,6 +1,7 @@
 -- Two stores.
+use borrow.Author.Rules.{rules}
 use Rattle.groups.proofs.Loop.{put_words}
 use Rattle.groups.proofs.put.Goals as goal
 
 pub returns : goal.returns
-returns c = put_words c.args.group.now c.args.i c.args.w c.requires.group_len c.requires.i_bound
+returns c = put_words c.args.group.now c.args.i c.args.w (search rules) c.requires

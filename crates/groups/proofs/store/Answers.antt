@@ -22,9 +22,6 @@ long-d c = front_long 8 (bytes c.args.group.now) c.loop-i.i c.args.d.now c.loop-
 pub loop-i-init : goal.loop-i-init
 loop-i-init c = (search rules, front_begins 8 _ _)
 
-pub store_word-requires : goal.store_word-requires
-store_word-requires c = omega (arith, long-d c.before.before.before.before.before)
-
 pub loop-i-preserved : goal.loop-i-preserved
 loop-i-preserved c =
     let a = c.args in

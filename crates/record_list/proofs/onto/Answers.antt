@@ -1,16 +1,20 @@
 -- Joined on where there is a record so far; else nothing is joined, and the power stays.
 use mathlib.Core.Path.{sym, ap, ◌∙◌}
-use Rattle.mode.specs.declared.RecordAnswer.{RecordAnswer}
-use Rattle.record_list.specs.Onto.{kept}
-use Rattle.record_list.proofs.Cases.{onto_given, onto_refused}
+use Rattle.std.specs.Prelude.{Result}
+use Rattle.mode.specs.declared.RunRecord.{RunRecord}
+use Rattle.mode.specs.declared.refusal.Refusal.{Refusal}
+use Rattle.record_list.specs.Onto.{kept, onto_answer}
 use Rattle.record_list.proofs.onto.Goals as goal
 
-pub returns-then-refusal-eq0 : goal.returns-then-refusal-eq0
-returns-then-refusal-eq0 c =
+pub returns-in-Ok : goal.returns-in-Ok
+unfolding onto_answer
+returns-in-Ok c =
     let a = c.args in
-    c.join_keeping.ensures ∙ sym (onto_given a.so_far a.next c.if-refusal-eq0.true)
+    c.join_keeping.ensures ∙ sym (ap (λ (x : Result RunRecord Refusal). onto_answer x a.so_far.last a.next) c.in-Ok.is)
 
-pub returns : goal.returns
-returns c =
+pub returns-in-Err : goal.returns-in-Err
+unfolding onto_answer
+returns-in-Err c =
     let a = c.args in
-    ap (λ (z : RecordAnswer). kept z a.so_far.last) c.unjoined-answer.ensures ∙ sym (onto_refused a.so_far a.next c.if-refusal-eq0.false)
+    ap (λ (x : Result RunRecord Refusal). kept x a.so_far.last) c.unjoined.ensures
+    ∙ sym (ap (λ (x : Result RunRecord Refusal). onto_answer x a.so_far.last a.next) c.in-Err.is)

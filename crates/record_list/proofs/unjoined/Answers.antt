@@ -1,20 +1,33 @@
--- By the refusal so far: each return under what was tested on the way to it.
-use mathlib.Core.Path.{sym, ap, ◌∙◌}
-use Rattle.record_list.specs.Onto.{unless_beyond}
-use Rattle.record_list.proofs.Cases.{unjoined-apart, unjoined-none, unjoined_stands}
+-- By the refusal so far.
+use mathlib.Core.Path.{◌≡◌, refl, sym, ap, ◌∙◌}
+use Rattle.std.specs.Prelude.{Err}
+use Rattle.mode.specs.declared.RunRecord.{RunRecord}
+use Rattle.mode.specs.declared.refusal.Refusal.{Refusal}
+use Rattle.mode.specs.declared.refusal.Refusal.TheVariants.{KeyLength, IvLength, Length, BeyondLimit, OutputTooShort, TagDiffers, Padding, NotNeighbours, NotWhole, ZeroMask, RecordLength}
+use Rattle.record_list.specs.Onto.{unjoined}
 use Rattle.record_list.proofs.unjoined.Goals as goal
 
-pub returns-then-refusal-eq8 : goal.returns-then-refusal-eq8
-returns-then-refusal-eq8 c =
-    let a = c.args in
-    c.unless_beyond.ensures ∙ ap (unless_beyond a.next) c.refused.ensures ∙ sym (unjoined-apart a.refusal a.next c.if-refusal-eq8.true)
+pub returns-in-NotNeighbours : goal.returns-in-NotNeighbours
+unfolding unjoined
+returns-in-NotNeighbours c = c.unless_beyond.ensures ∙ sym (ap (λ (r : Refusal). unjoined r c.args.next) c.in-NotNeighbours.is)
 
-pub returns-then-refusal-eq9 : goal.returns-then-refusal-eq9
-returns-then-refusal-eq9 c =
-    let a = c.args in
-    c.unless_beyond-then-refusal-eq9.ensures ∙ sym (unjoined-none a.refusal a.next c.if-refusal-eq9.true)
+pub returns-in-NotWhole : goal.returns-in-NotWhole
+unfolding unjoined
+returns-in-NotWhole c = c.unless_beyond-in-NotWhole.ensures ∙ sym (ap (λ (r : Refusal). unjoined r c.args.next) c.in-NotWhole.is)
 
-pub returns : goal.returns
-returns c =
-    let a = c.args in
-    c.refused-2.ensures ∙ sym (unjoined_stands a.refusal a.next c.if-refusal-eq8.false c.if-refusal-eq9.false)
+stands : (r : Refusal) (next : RunRecord) → (r ≡ NotNeighbours → ⊥) → (r ≡ NotWhole → ⊥) → Err r ≡ unjoined r next
+unfolding unjoined
+stands KeyLength next h k = refl
+stands IvLength next h k = refl
+stands Length next h k = refl
+stands BeyondLimit next h k = refl
+stands OutputTooShort next h k = refl
+stands TagDiffers next h k = refl
+stands Padding next h k = refl
+stands NotNeighbours next h k = absurd (h refl)
+stands NotWhole next h k = absurd (k refl)
+stands ZeroMask next h k = refl
+stands RecordLength next h k = refl
+
+pub returns-in_default : goal.returns-in_default
+returns-in_default c = stands c.args.refusal c.args.next c.in_default.not-NotNeighbours c.in_default.not-NotWhole

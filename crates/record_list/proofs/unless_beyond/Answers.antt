@@ -10,7 +10,7 @@ pub returns-then-end-gt-LIMIT : goal.returns-then-end-gt-LIMIT
 unfolding unless_beyond beyond_within
 returns-then-end-gt-LIMIT c =
     let r = c.args.next in
-    rw (lt-ltb limit (r.first + r.count) c.if-end-gt-LIMIT.true) c.refused.ensures
+    rw (lt-ltb limit (r.first + r.count) c.if-end-gt-LIMIT.true) refl
 
 pub returns : goal.returns
 unfolding unless_beyond beyond_within

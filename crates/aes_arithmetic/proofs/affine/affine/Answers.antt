@@ -8,5 +8,5 @@ use Rattle.aes_arithmetic.proofs.affine.affine.Goals as goal
 pub returns : goal.returns
 returns c =
     let x = c.args.x in
-    (λ j. bit_xor (bit_xor (bit_xor (bit_xor (bit_xor x (c.rotate.ensures j)) (c.rotate-2.ensures j)) (c.rotate-3.ensures j)) (c.rotate-4.ensures j)) 0x63)
+    (λ j. bit_xor (bit_xor (bit_xor (bit_xor (bit_xor x (c.rotate_left.ensures j)) (c.rotate_left-2.ensures j)) (c.rotate_left-3.ensures j)) (c.rotate_left-4.ensures j)) 0x63)
     ∙ affine_turns x (search rules)

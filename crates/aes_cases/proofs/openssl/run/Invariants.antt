@@ -1,10 +1,6 @@
--- A turn reads one line, which lies within the text, and each count goes up by at most one.
-use Prim.Native.Nat.{◌≤◌, ◌-◌}
+-- A turn takes one line off the front.
 use lib.ListN.{length}
 use Rattle.aes_cases.proofs.openssl.run.Given as goal
 
-abbrev pub invariant-loop-at : goal.invariant-loop-at
-invariant-loop-at l = (l.at ≤ length l.text) × (l.encrypted ≤ l.at) × (l.decrypted ≤ l.at) × (l.met ≤ l.at)
-
-abbrev pub decreases-loop-at : goal.decreases-loop-at
-decreases-loop-at l = length l.text - l.at
+abbrev pub decreases-loop-line : goal.decreases-loop-line
+decreases-loop-line g l = length l.left

@@ -9,5 +9,5 @@ use Rattle.aes_steps.proofs.schedule.put_word.Goals as goal
 
 pub returns : goal.returns
 returns c =
-    let k : length c.args.x ≡ 4 = search rules in
-    word_stored c.args.w.now c.args.x (c.args.i * 4) (omega (arith, c.requires.w_len, c.requires.i_bound)) k
+    let w : length c.args.w.now ≡ 241 = search rules in
+    word_stored c.args.w.now c.args.x (c.args.i * 4) (omega arith) (search rules)

@@ -1,7 +1,7 @@
 use borrow.Author.Rules.{rules}
-use mathlib.Core.Path.{◌≡◌, refl, ◌∙◌}
+use mathlib.Core.Path.{◌≡◌, ◌∙◌}
 use mathlib.Core.List.{List}
-use Prim.Native.Nat.{ℕ, ◌+◌, ◌%◌}
+use Prim.Native.Nat.{ℕ, ◌+◌, ◌*◌, ◌%◌, ◌<◌}
 use native.Mathlib.Omega.{arith}
 use lib.Bits.{bit_xor}
 use lib.ListN.{get_or}
@@ -35,27 +35,28 @@ block : (c : At_start) → Block c.args.s
 block c = block-by c.args.s (search rules) (λ i. search rules)
 
 pub loop-i-init : goal.loop-i-init
-loop-i-init c = (search rules, refl, fill_none 16 _)
+loop-i-init c = (search rules, fill_none 16 _)
 
 pub loop-i-preserved : goal.loop-i-preserved
 loop-i-preserved c =
     let s = c.args.s in
-    let i = c.loop-i.i in
-    let m : i % 4 ≡ 0 = c.loop-i.invariant.1 in
+    let i = c.loop-i.i * 4 in
+    let m : i % 4 ≡ 0 = omega arith in
+    let l : i < 16 = omega arith in
+    let n : (c.loop-i.i + 1) * 4 ≡ i + 4 = omega arith in
     let b : Block s = block c.before.before.before.before.before.before.before.before.before.before in
     let p = c.even-a.ensures in
     let q = c.even-b.ensures in
     let r = c.even-c.ensures in
     let t = c.even-d.ensures in (
       omega arith,
-      omega arith,
-      column_stored (unmixed s) c.loop-i.r i _ _ _ _ m (search rules) c.loop-i.invariant.2
+      rw n (column_stored (unmixed s) c.loop-i.r i _ _ _ _ m l c.loop-i.invariant.1
           (c.mix.ensures ∙ undone s b i (i + 1) (i + 2) (i + 3) p q r t ∙ column_0 inv_mix s i m)
           (c.mix-in-loop-i.ensures ∙ undone s b (i + 1) (i + 2) (i + 3) i q r t p ∙ column_1 inv_mix s i m)
           (c.mix-in-loop-i-2.ensures ∙ undone s b (i + 2) (i + 3) i (i + 1) r t p q ∙ column_2 inv_mix s i m)
-          (c.mix-in-loop-i-3.ensures ∙ undone s b (i + 3) i (i + 1) (i + 2) t p q r ∙ column_3 inv_mix s i m),
+          (c.mix-in-loop-i-3.ensures ∙ undone s b (i + 3) i (i + 1) (i + 2) t p q r ∙ column_3 inv_mix s i m)),
     )
 
 pub returns : goal.returns
 unfolding inv_mix_columns
-returns c = fill_all 16 (unmixed c.args.s) c.loop-i.i c.loop-i.invariant.0 c.loop-i-test.false c.loop-i.invariant.2
+returns c = fill_all 16 (unmixed c.args.s) (c.loop-i.i * 4) (omega arith) (omega arith) c.loop-i.invariant.1

@@ -1,11 +1,7 @@
 -- The loop over the list's records, each read from its bytes.
-use Prim.Native.Nat.{◌-◌, ◌≤◌}
 use Rattle.record_list.proofs.Loop.{Going}
 use Rattle.record_bytes.specs.Encoding.{records_of}
 use Rattle.balzenoh.proofs.join.join_records.Given as goal
 
 abbrev pub invariant-loop-i : goal.invariant-loop-i
-invariant-loop-i l = (l.i ≤ l.count) × Going (records_of l.records) l.i l.so_far
-
-abbrev pub decreases-loop-i : goal.decreases-loop-i
-decreases-loop-i l = l.count - l.i
+invariant-loop-i l = Going (records_of l.records) l.i l.so_far

@@ -1,56 +1,54 @@
 -- Refused, or stored in front of zeros.
 use borrow.Author.Rules.{rules}
-use mathlib.Core.Path.{◌≡◌, sym, ap₂, ◌∙◌}
-use Prim.Native.Nat.{ℕ}
+use mathlib.Core.Path.{◌≡◌, sym, ap, ◌∙◌}
+use mathlib.Core.List.{List, ◌++◌}
+use Prim.Native.Nat.{ℕ, ◌-◌}
 use native.Mathlib.Omega.{arith}
 use lib.ListN.{length, take}
 use lib.Seq.{length-take-le}
+use Rattle.std.specs.Prelude.{Result, Ok}
+use Rattle.std.specs.Result.{result_unwrap_or}
+use Rattle.blocks.specs.Bytes.{zeros}
+use Rattle.blocks.proofs.Zeros.{stored_front}
+use Rattle.mode.specs.declared.finish.Finish.{Finish as Named}
+use Rattle.mode.specs.declared.refusal.Refusal.{Refusal}
 use Rattle.mode.specs.Mode.{finish_named}
 use Rattle.mode.proofs.Finishes.{tag_within}
-use Rattle.mode.specs.Table.{first_row}
-use Rattle.blocks.proofs.Zeros.{stored_front}
-use Rattle.balzenoh.specs.Exports.{lent_rows}
+use Rattle.balzenoh.specs.Exports.{with_room}
 use Rattle.balzenoh.proofs.Lent.{room_there, lent_refused, lent_given}
 use Rattle.balzenoh.proofs.tag.give.Goals as goal
-use Rattle.balzenoh.proofs.tag.give.Tie as tie
-use Rattle.balzenoh.proofs.tag.give.Lts as lts
-use Rattle.balzenoh.proofs.tag.give.Reads as reads
 
-abbrev At_after_refusal : Type 0
-At_after_refusal = lts.After-refusal tie.the-claims reads.Pre reads.Post
+-- a tag that is held, without the zeros behind it
+module _ (finish : Named) (answer : Result (List ℕ) Refusal) (room size : ℕ) (tag : List ℕ) (es : size ≡ (finish_named finish).tag_length) (h : Ok tag ≡ with_room answer room size) where
+  n : ℕ
+  n = (finish_named finish).tag_length
 
-abbrev At_start : Type 0
-At_start = lts.Start tie.the-claims reads.Pre reads.Post
+  is : take (finish_named finish).tag_length (result_unwrap_or answer (zeros 20)) ≡ take (finish_named finish).tag_length tag
+  is = ap (λ (x : Result (List ℕ) Refusal). take (finish_named finish).tag_length (result_unwrap_or x (zeros 20))) (room_there room size answer tag h).1
 
--- the rows, at the length that was lent and for a tag of the finish
-at_room : (c : At_after_refusal) → let a = c.args in
-    c.refusal-refusal.result ≡ first_row (lent_rows a.answer.refusal (length a.out.now) (finish_named a.finish).tag_length)
-at_room c =
-    let a = c.args in
-    c.refusal-refusal.ensures
-    ∙ ap₂ (λ (k n : ℕ). first_row (lent_rows a.answer.refusal k n)) c.clear.auto.d c.tag_length-size.ensures
-
--- the tag without the zeros behind it
-long : (c : At_start) → length (take (finish_named c.args.finish).tag_length c.args.answer.tag) ≡ (finish_named c.args.finish).tag_length
-long c =
-    let held : length c.args.answer.tag ≡ 20 = search rules in
-    length-take-le (finish_named c.args.finish).tag_length c.args.answer.tag (omega (arith, held, tag_within c.args.finish))
-
-pub returns-then-refusal-ne0 : goal.returns-then-refusal-ne0
-returns-then-refusal-ne0 c =
-    let a = c.args in
-    let size = (finish_named a.finish).tag_length in
-    lent_refused a.answer.refusal size (take size a.answer.tag) (length a.out.now) c.refusal-refusal.result c.clear.new.d (at_room c.before.before) c.if-refusal-ne0.true c.clear.ensures
+  long : length tag ≡ 20 → length (take (finish_named finish).tag_length (result_unwrap_or answer (zeros 20))) ≡ (finish_named finish).tag_length
+  long held = ap length is ∙ length-take-le (finish_named finish).tag_length tag (omega (arith, held, tag_within finish))
 
 pub put-requires : goal.put-requires
 put-requires c =
     let a = c.args in
-    omega (arith, c.clear.auto.d, room_there a.answer.refusal (length a.out.now) (finish_named a.finish).tag_length (sym (at_room c.before.before.before) ∙ c.if-refusal-ne0.false))
+    omega (arith, c.clear.auto.d, c.tag_length-size.ensures, (room_there (length a.out.now) c.tag_length-size.result a.answer _ c.in-Ok.ensures).0)
 
-pub returns : goal.returns
-returns c =
+pub returns-in-Ok : goal.returns-in-Ok
+returns-in-Ok c =
     let a = c.args in
-    let size = (finish_named a.finish).tag_length in
     let room = length a.out.now in
-    lent_given a.answer.refusal size (take size a.answer.tag) room c.put.new.out (long c.before.before.before.before.before.before.before.before.before.before.before.before.before.before) (sym (at_room c.before.before.before.before.before.before.before) ∙ c.if-refusal-ne0.false)
-    (stored_front size c.clear.new.d c.put.new.out (take size a.answer.tag) room c.clear.ensures c.put.ensures)
+    let tag = c.in-Ok.tag in
+    let size = (finish_named a.finish).tag_length in
+    let held : length tag ≡ 20 = search rules in
+    let e : Ok tag ≡ with_room a.answer room size = c.in-Ok.ensures ∙ ap (with_room a.answer room) c.tag_length-size.ensures in
+    let same = is a.finish a.answer room c.tag_length-size.result tag c.tag_length-size.ensures c.in-Ok.ensures in
+    lent_given room size a.answer tag (take size (result_unwrap_or a.answer (zeros 20))) c.put.new.out e (long a.finish a.answer room c.tag_length-size.result tag c.tag_length-size.ensures c.in-Ok.ensures held)
+    (stored_front size c.clear.new.d c.put.new.out (take size tag) room c.clear.ensures c.put.ensures ∙ ap (λ (x : List ℕ). x ++ zeros (room - size)) (sym same))
+
+pub returns-in-Err : goal.returns-in-Err
+returns-in-Err c =
+    let a = c.args in
+    let room = length a.out.now in
+    let size = (finish_named a.finish).tag_length in
+    rw c.number.ensures (lent_refused room size a.answer c.in-Err.refusal (take size (result_unwrap_or a.answer (zeros 20))) c.clear.new.d (c.in-Err.ensures ∙ ap (with_room a.answer room) c.tag_length-size.ensures) c.clear.ensures)

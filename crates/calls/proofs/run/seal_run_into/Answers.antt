@@ -18,7 +18,7 @@ use Rattle.calls.proofs.LaidOut.{blocks-laid_out, count_laid_out}
 use Rattle.calls.proofs.run.seal_run_into.Goals as goal
 
 pub overflow_cast-count : goal.overflow_cast-count
-overflow_cast-count c = omega (arith, c.laid_out_length-size.ensures, c.requires.bytes_bound)
+overflow_cast-count c = omega (arith, c.laid_out_length.ensures, c.requires.bytes_bound)
 
 pub seal_text-chain-requires : goal.seal_text-chain-requires
 seal_text-chain-requires c =
@@ -36,7 +36,7 @@ returns c =
     let a = c.args in
     let q = c.prepare-p in
     let x = c.seal_text-chain in
-    let y = c.laid_out_length-size in
+    let y = c.laid_out_length in
     let l = blocks-laid_out a.last a.bytes.now in
     let k = q.ensures.expanded.of in
     let m = c.jump-first_mask.ensures ∙ ap (jump a.first) q.ensures.started in
@@ -46,6 +46,6 @@ returns c =
     let w = x.result.preauthenticator in
     let o = x.type_inv.1.1.1.0 in
     let r = words_of_lem w _ (proper_by w (search (rules, o)) (search (rules, o))) (x.ensures.authenticated ∙ ap (λ (z : Pass). z.preauthenticator) p) in record {
-      answer = (λ i. record { refusal = 0; length = y.ensures i; run = record { first = a.first; count = n i; preauthenticator = r i } });
+      answer = (λ i. record { first = a.first; count = n i; preauthenticator = r i });
       output = x.ensures.written ∙ ap (λ (z : Pass). z.output ++ zeros (length a.out.now - laid_out_length a.last (length a.bytes.now))) p;
     }

@@ -17,20 +17,22 @@ use Rattle.mode.proofs.Rows.{row_holds, row_passes, no_row, isnt16, too_long_lem
 use Rattle.mode.proofs.Aes.{aes_lawful}
 use Rattle.mode.proofs.Finishes.{both, tag_within}
 use Rattle.mode.proofs.SealedLength.{sealed_length_lem}
+use Rattle.mode.specs.declared.refusal.Refusal.TheVariants.{KeyLength, IvLength, Length, OutputTooShort, ZeroMask}
+use Rattle.mode.proofs.Answers.{refuses_by, lets_pass}
 use Rattle.calls.proofs.seal.seal_refusal.Goals as goal
 
 pub returns-then-not_key : goal.returns-then-not_key
-returns-then-not_key c = sym (row_holds 1 _ _ (sym c.not_key.ensures ∙ c.if-not_key.true))
+returns-then-not_key c = refuses_by KeyLength (row_holds 1 _ _ (sym c.not_key.ensures ∙ c.if-not_key.true))
 
 pub returns-then-iv-ne16 : goal.returns-then-iv-ne16
 returns-then-iv-ne16 c =
     let a = c.args in
-    sym (row_passes 1 _ _ (sym c.not_key.ensures ∙ c.if-not_key.false) ∙ row_holds 2 _ _ (isnt16 a.iv.now c.if-iv-ne16.true))
+    refuses_by IvLength (row_passes 1 _ _ (sym c.not_key.ensures ∙ c.if-not_key.false) ∙ row_holds 2 _ _ (isnt16 a.iv.now c.if-iv-ne16.true))
 
 pub returns-then-message-gt-LONGEST_MESSAGE : goal.returns-then-message-gt-LONGEST_MESSAGE
 returns-then-message-gt-LONGEST_MESSAGE c =
     let a = c.args in
-    sym (row_passes 1 _ _ (sym c.not_key.ensures ∙ c.if-not_key.false) ∙ row_passes 2 _ _ (is16 a.iv.now c.if-iv-ne16.false) ∙ row_holds 3 _ _ (too_long_lem limit a.message.now c.if-message-gt-LONGEST_MESSAGE.true))
+    refuses_by Length (row_passes 1 _ _ (sym c.not_key.ensures ∙ c.if-not_key.false) ∙ row_passes 2 _ _ (is16 a.iv.now c.if-iv-ne16.false) ∙ row_holds 3 _ _ (too_long_lem limit a.message.now c.if-message-gt-LONGEST_MESSAGE.true))
 
 pub overflow_add-needed-2 : goal.overflow_add-needed-2
 overflow_add-needed-2 c = record { fits = omega (arith, c.overhead.ensures, tag_within c.args.finish) }
@@ -51,7 +53,7 @@ pub returns-then-zero : goal.returns-then-zero
 returns-then-zero c =
     let a = c.args in
     let fits : length a.message.now ≤ longest_message = omega arith in
-    sym (three-pass a.key.now a.iv.now a.message.now _ (sym c.not_key.ensures ∙ c.if-not_key.false) c.if-iv-ne16.false fits ∙ row_holds 10 _ _ (sym c.zero_mask-zero.ensures ∙ c.if-zero.true))
+    refuses_by ZeroMask (three-pass a.key.now a.iv.now a.message.now _ (sym c.not_key.ensures ∙ c.if-not_key.false) c.if-iv-ne16.false fits ∙ row_holds 10 _ _ (sym c.zero_mask-zero.ensures ∙ c.if-zero.true))
 
 -- what is needed is the record's length
 needed-is : (finish : Finish) (key iv message : List ℕ) (around needed : ℕ) → not_key key ≡ false → length iv ≡ 16 → around ≡ overhead (finish_named finish)
@@ -65,7 +67,7 @@ returns-then-room-needed c =
     let k = sym c.not_key.ensures ∙ c.if-not_key.false in
     let fits : length a.message.now ≤ longest_message = omega arith in
     let passed : zero_mask aes a.key.now a.iv.now ≡ false = search rules in
-    sym (three-pass a.key.now a.iv.now a.message.now _ k c.if-iv-ne16.false fits ∙ row_passes 10 _ _ passed
+    refuses_by OutputTooShort (three-pass a.key.now a.iv.now a.message.now _ k c.if-iv-ne16.false fits ∙ row_passes 10 _ _ passed
     ∙ row_holds 5 _ _ (lt-ltb a.room _ (rw (needed-is a.finish a.key.now a.iv.now a.message.now _ _ k c.if-iv-ne16.false c.overhead.ensures refl) c.if-room-needed.true)))
 
 pub returns : goal.returns
@@ -74,5 +76,5 @@ returns c =
     let k = sym c.not_key.ensures ∙ c.if-not_key.false in
     let fits : length a.message.now ≤ longest_message = omega arith in
     let passed : zero_mask aes a.key.now a.iv.now ≡ false = search rules in
-    sym (three-pass a.key.now a.iv.now a.message.now _ k c.if-iv-ne16.false fits ∙ row_passes 10 _ _ passed
+    lets_pass (three-pass a.key.now a.iv.now a.message.now _ k c.if-iv-ne16.false fits ∙ row_passes 10 _ _ passed
     ∙ row_passes 5 _ _ (le-ltb a.room _ (rw (needed-is a.finish a.key.now a.iv.now a.message.now _ _ k c.if-iv-ne16.false c.overhead.ensures refl) c.if-room-needed.false)) ∙ no_row)

@@ -5,10 +5,10 @@ use Rattle.mode.specs.Powers.{Keeps}
 use Rattle.mode.proofs.Powers.{keeps_none, keeping_answer}
 use Rattle.mode.proofs.RunRecord.join.Goals as goal
 
-pub join_keeping-joined-requires : goal.join_keeping-joined-requires
-join_keeping-joined-requires c = subst Keeps (sym c.none.ensures) keeps_none
+pub join_keeping-requires : goal.join_keeping-requires
+join_keeping-requires c = subst Keeps (sym c.none.ensures) keeps_none
 
 pub returns : goal.returns
 returns c =
     let a = c.args in
-    ap (λ (j : KeptAnswer). j.answer) c.join_keeping-joined.ensures ∙ keeping_answer a.self a.right c.none.result
+    ap (λ (j : KeptAnswer). j.answer) c.join_keeping.ensures ∙ keeping_answer a.self a.right c.none.result

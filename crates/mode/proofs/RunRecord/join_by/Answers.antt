@@ -8,5 +8,5 @@ pub returns : goal.returns
 returns c =
     let a = c.args in
     let m = c.multiply-moved in
-    let x = c.xor-preauthenticator in
+    let x = c.bitxor-preauthenticator in
     joined_by a.self a.right a.power m.result x.result (proper_by x.result (search rules) (search rules)) c.requires m.ensures x.ensures

@@ -1,8 +1,10 @@
 -- By the rows of the table: each return under what was tested on the way to it.
 use Prim.Native.Nat.{◌+◌, ◌≤◌, ◌<◌}
 use native.Mathlib.Omega.{arith}
-use mathlib.Core.Path.{◌≡◌}
+use mathlib.Core.Path.{◌≡◌, sym}
 use Rattle.mode.specs.Table.{limit}
+use Rattle.mode.specs.Refusals.{BeyondLimit, NotNeighbours}
+use Rattle.mode.proofs.Answers.{refuses_by, lets_pass}
 use Rattle.mode.proofs.Join.{join_left_beyond, join_right_beyond, join_apart, join_adjoins}
 use Rattle.mode.proofs.RunRecord.join_refusal.Goals as goal
 
@@ -10,21 +12,21 @@ pub returns-then-left_end-gt-LIMIT : goal.returns-then-left_end-gt-LIMIT
 returns-then-left_end-gt-LIMIT c =
     let a = c.args in
     let h : limit < a.self.first + a.self.count = omega arith in
-    join_left_beyond a.self a.right h
+    refuses_by BeyondLimit (sym (join_left_beyond a.self a.right h))
 
 pub returns-then-right_end-gt-LIMIT : goal.returns-then-right_end-gt-LIMIT
 returns-then-right_end-gt-LIMIT c =
     let a = c.args in
     let h : a.self.first + a.self.count ≤ limit = omega arith in
     let k : limit < a.right.first + a.right.count = omega arith in
-    join_right_beyond a.self a.right h k
+    refuses_by BeyondLimit (sym (join_right_beyond a.self a.right h k))
 
 pub returns-then-left_end-right : goal.returns-then-left_end-right
 returns-then-left_end-right c =
     let a = c.args in
     let h : a.self.first + a.self.count ≤ limit = omega arith in
     let k : a.right.first + a.right.count ≤ limit = omega arith in
-    join_apart a.self a.right h k (λ e. omega arith)
+    refuses_by NotNeighbours (sym (join_apart a.self a.right h k (λ e. omega arith)))
 
 pub returns : goal.returns
 returns c =
@@ -32,4 +34,4 @@ returns c =
     let h : a.self.first + a.self.count ≤ limit = omega arith in
     let k : a.right.first + a.right.count ≤ limit = omega arith in
     let e : a.self.first + a.self.count ≡ a.right.first = omega arith in
-    join_adjoins a.self a.right h k e
+    lets_pass (sym (join_adjoins a.self a.right h k e))

@@ -55,8 +55,8 @@ returns c =
         tagged =
             c.tag-tag.ensures
             ∙ ap₂ (λ (x u : List ℕ). held_tag (t.tag_from aes key x u))
-            (c.xor-preauthenticator.ensures
-            ∙ ap₂ xor_bytes (c.times_x-moved.ensures ∙ ap times_x (front.ensures.authenticated ∙ ap (λ (z : Pass). z.preauthenticator) p)) (end.ensures.authenticated ∙ ap (λ (z : Pass). z.preauthenticator) q)
+            (c.bitxor-preauthenticator.ensures
+            ∙ ap₂ xor_bytes (c.times_x.ensures ∙ ap times_x (front.ensures.authenticated ∙ ap (λ (z : Pass). z.preauthenticator) p)) (end.ensures.authenticated ∙ ap (λ (z : Pass). z.preauthenticator) q)
             ∙ sym (preauthenticator_whole text h key start hk hm))
             (end.ensures.masked ∙ ap (λ (z : Pass). z.mask) q ∙ sym (mask_whole text h key start hk hm));
         opened = ap (λ (x : List ℕ). front_of key start text ++ x) w ∙ plaintext_whole text h key start hk hm;

@@ -7,33 +7,25 @@ use Rattle.opening.proofs.Padding.{other_byte, all_zero, nothing_behind, one_mor
 use Rattle.opening.proofs.message.message_end.Goals as goal
 
 pub loop-end-init : goal.loop-end-init
-loop-end-init c = let l : length c.args.block ≡ 16 = search rules in (l, omega arith, nothing_behind c.args.block l)
-
-pub bounds-block-end : goal.bounds-block-end
-bounds-block-end c = let i = c.loop-end.invariant in omega (arith, i.0, i.1, c.loop-end-test.true)
+loop-end-init c = let l : length c.args.block ≡ 16 = search rules in (l, nothing_behind c.args.block l)
 
 pub returns-then-byte : goal.returns-then-byte
-returns-then-byte c = let i = c.loop-end.invariant in let h = c.loop-end-test.true in ends_there _ i.0 c.loop-end.end (omega (arith, h)) i.1 c.if-byte.true i.2
+returns-then-byte c = let i = c.loop-end.invariant in ends_there _ i.0 c.loop-end.end (omega arith) (omega arith) c.if-byte.true i.1
 
 pub returns-then-byte-ne0 : goal.returns-then-byte-ne0
 returns-then-byte-ne0 c =
     let i = c.loop-end.invariant in
     let end = c.loop-end.end in
-    let h = c.loop-end-test.true in
-    ends_nowhere _ i.0 (λ m p. other_byte _ m p (end - 1) (16 - end) (ap (λ (k : ℕ). drop k c.args.block) (let q : suc (end - 1) ≡ end = omega (arith, h) in q) ∙ i.2) c.if-byte.false c.if-byte-ne0.true)
-
-pub loop-end-smaller : goal.loop-end-smaller
-loop-end-smaller c = let h = c.loop-end-test.true in omega (arith, h)
+    ends_nowhere _ i.0 (λ m p. other_byte _ m p (end - 1) (16 - end) (ap (λ (k : ℕ). drop k c.args.block) (let q : suc (end - 1) ≡ end = omega arith in q) ∙ i.1) c.if-byte.false c.if-byte-ne0.true)
 
 pub loop-end-preserved : goal.loop-end-preserved
 loop-end-preserved c =
     let i = c.loop-end.invariant in
     let end = c.loop-end.end in
-    let h = c.loop-end-test.true in
-    (i.0, omega (arith, i.1), one_more _ i.0 end (omega (arith, h)) i.1 c.if-byte-ne0.false i.2)
+    (i.0, one_more _ i.0 end (omega arith) (omega arith) c.if-byte-ne0.false i.1)
 
 pub returns : goal.returns
 returns c =
     let i = c.loop-end.invariant in
-    let z : c.loop-end.end ≡ 0 = omega (arith, c.loop-end-test.false) in
-    ends_nowhere _ i.0 (λ m p. all_zero _ m p (16 - c.loop-end.end) (ap (λ (k : ℕ). drop k c.args.block) (sym z) ∙ i.2))
+    let z : c.loop-end.end ≡ 0 = omega arith in
+    ends_nowhere _ i.0 (λ m p. all_zero _ m p (16 - c.loop-end.end) (ap (λ (k : ℕ). drop k c.args.block) (sym z) ∙ i.1))

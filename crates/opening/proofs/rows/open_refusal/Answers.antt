@@ -13,6 +13,8 @@ use Rattle.mode.specs.Table.{first_row, not_key, not_sealed, zero_mask}
 use Rattle.mode.specs.Parallel.{Fits}
 use Rattle.mode.proofs.Rows.{row_holds, row_passes, no_row}
 use Rattle.mode.proofs.Passed.{sealed_lengths}
+use Rattle.mode.specs.declared.refusal.Refusal.TheVariants.{KeyLength, Length, ZeroMask}
+use Rattle.mode.proofs.Answers.{refuses_by, lets_pass}
 use Rattle.opening.proofs.rows.open_refusal.Goals as goal
 use Rattle.opening.proofs.rows.open_refusal.Tie as tie
 use Rattle.opening.proofs.rows.open_refusal.Lts as lts
@@ -28,14 +30,14 @@ abbrev At_else3 : Type 0
 At_else3 = lts.Else3 tie.the-claims reads.Pre reads.Post tie.handed_clauses
 
 pub returns-then-not_key : goal.returns-then-not_key
-returns-then-not_key c = sym (row_holds 1 _ _ (sym c.not_key.ensures ∙ c.if-not_key.true))
+returns-then-not_key c = refuses_by KeyLength (row_holds 1 _ _ (sym c.not_key.ensures ∙ c.if-not_key.true))
 
 -- row 1 is passed
 key-passes : (c : At_else1) (rows : List (ℕ × Bool)) → first_row ((1, not_key c.args.key.now) ∷ rows) ≡ first_row rows
 key-passes c rows = row_passes 1 _ _ (sym c.not_key.ensures ∙ c.if-not_key.false)
 
 pub returns-then-not_sealed : goal.returns-then-not_sealed
-returns-then-not_sealed c = sym (key-passes c.before.before.before _ ∙ row_holds 3 _ _ (sym c.not_sealed.ensures ∙ c.if-not_sealed.true))
+returns-then-not_sealed c = refuses_by Length (key-passes c.before.before.before _ ∙ row_holds 3 _ _ (sym c.not_sealed.ensures ∙ c.if-not_sealed.true))
 
 -- and row 3
 sealed-is : (c : At_else2) → let a = c.args in not_sealed (finish_named a.finish) a.sealed.now ≡ false
@@ -65,7 +67,7 @@ both-pass c rows = key-passes c.before.before _ ∙ row_passes 3 _ _ (sealed-is 
 
 pub returns-then-zero_mask : goal.returns-then-zero_mask
 unfolding iv_part
-returns-then-zero_mask c = sym (both-pass c.before.before.before _ ∙ row_holds 10 _ _ (sym c.zero_mask.ensures ∙ c.if-zero_mask.true))
+returns-then-zero_mask c = refuses_by ZeroMask (both-pass c.before.before.before _ ∙ row_holds 10 _ _ (sym c.zero_mask.ensures ∙ c.if-zero_mask.true))
 
 -- and row 10
 three-pass : (c : At_else3) (rows : List (ℕ × Bool)) → let a = c.args in
@@ -74,4 +76,4 @@ unfolding iv_part
 three-pass c rows = both-pass c.before.before _ ∙ row_passes 10 _ _ (sym c.zero_mask.ensures ∙ c.if-zero_mask.false)
 
 pub returns : goal.returns
-returns c = sym (three-pass c.before _ ∙ no_row)
+returns c = lets_pass (three-pass c.before _ ∙ no_row)

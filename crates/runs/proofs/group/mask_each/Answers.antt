@@ -11,7 +11,7 @@ use Rattle.runs.proofs.group.mask_each.Goals as goal
 
 pub loop-i-init : goal.loop-i-init
 unfolding jump
-loop-i-init c = (search rules, begins _ _ c.requires.group_len, begins _ _ c.requires.masks_len, refl)
+loop-i-init c = (search rules, begins _ _ (search rules), begins _ _ (search rules), refl)
 
 pub loop-i-preserved : goal.loop-i-preserved
 unfolding jump
@@ -20,7 +20,7 @@ loop-i-preserved c =
     let m = bytes_of c.args.mask in (
       search rules,
       turn _ i _ c.loop-i.group c.put.new.group _ c.loop-i.invariant.1 c.put.ensures
-          (c.xor-masked.ensures ∙ ap₂ xor_bytes (c.get-block.ensures ∙ c.loop-i.invariant.1.rest i (omega arith)) c.loop-i.invariant.3),
+          (c.bitxor-masked.ensures ∙ ap₂ xor_bytes (c.get-block.ensures ∙ c.loop-i.invariant.1.rest i (omega arith)) c.loop-i.invariant.3),
       turn _ i _ c.loop-i.masks c.put-in-loop-i.new.group _ c.loop-i.invariant.2 c.put-in-loop-i.ensures c.loop-i.invariant.3,
       c.times_x-next.ensures ∙ ap times_x c.loop-i.invariant.3 ∙ ap (λ (k : ℕ). jump k m) (sym (add-one i)),
     )

@@ -21,7 +21,7 @@ loop-i-preserved c =
     let b = block_at c.args.middle.now in
     let p = bytes_of c.args.preauthenticator in (
       search rules,
-      c.xor-next.ensures ∙ ap₂ xor_bytes (c.times_x-moved.ensures ∙ ap times_x c.loop-i.invariant.1) c.get-added.ensures ∙ ap (λ (k : ℕ). taken_up k b p) (sym (add-one i)),
+      c.bitxor-next.ensures ∙ ap₂ xor_bytes (c.times_x-moved.ensures ∙ ap times_x c.loop-i.invariant.1) c.get-added.ensures ∙ ap (λ (k : ℕ). taken_up k b p) (sym (add-one i)),
     )
 
 pub returns : goal.returns

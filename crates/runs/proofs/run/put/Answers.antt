@@ -29,7 +29,6 @@ pub store-requires : goal.store-requires
 store-requires c =
     record {
       n_bound = c.requires.n_bound;
-      group_len = c.requires.group_len;
       n_in_bounds = omega (arith, room c.before.before, length-drop c.args.at c.args.out.now);
     }
 

@@ -1,10 +1,10 @@
--- A turn reads one line, which lies within the file, and the count goes up by at most one.
-use Prim.Native.Nat.{◌≤◌, ◌-◌}
+-- A turn takes one line off the front, and the count goes up by at most one.
+use Prim.Native.Nat.{◌≤◌, ◌+◌}
 use lib.ListN.{length}
 use Rattle.sha1_cases.proofs.lines.texts.Given as goal
 
-abbrev pub invariant-loop-at : goal.invariant-loop-at
-invariant-loop-at l = (l.at ≤ length l.lines) × (l.agreed ≤ l.at)
+abbrev pub invariant-loop-head : goal.invariant-loop-head
+invariant-loop-head l = l.agreed + length l.left ≤ length l.fn.lines
 
-abbrev pub decreases-loop-at : goal.decreases-loop-at
-decreases-loop-at l = length l.lines - l.at
+abbrev pub decreases-loop-head : goal.decreases-loop-head
+decreases-loop-head l = length l.left

@@ -13,5 +13,5 @@ returns c =
     let a = c.args in
     c.xor.ensures
     ∙ ap₂ xor_bytes
-    (c.encrypt_block-encrypted.ensures ∙ by_halves (key_of a.keys.now) c.to_bytes-block.result ∙ ap (encrypt_of aes (key_of a.keys.now)) (c.to_bytes-block.ensures ∙ c.xor-sum.ensures))
-    c.to_bytes-added.ensures
+    (c.encrypt_block-encrypted.ensures ∙ by_halves (key_of a.keys.now) c.into.result ∙ ap (encrypt_of aes (key_of a.keys.now)) (c.into.ensures ∙ c.bitxor-sum.ensures))
+    c.into-2.ensures

@@ -23,7 +23,7 @@ pub returns-then-equal : goal.returns-then-equal
 unfolding key_block
 returns-then-equal c =
     let a = c.args in
-    c.from_bytes.ensures
+    c.from.ensures
     ∙ chosen true a.keys.now a.iv _ _ _ _ c.key_block-key.ensures c.xor-block.ensures (c.encrypt_block-encrypted.ensures ∙ by_halves (key_of a.keys.now) c.xor-block.result) c.xor-sum.ensures
     (sym c.equal.ensures ∙ c.if-equal.true)
 
@@ -31,6 +31,6 @@ pub returns : goal.returns
 unfolding key_block
 returns c =
     let a = c.args in
-    c.from_bytes-2.ensures
+    c.from-2.ensures
     ∙ chosen false a.keys.now a.iv _ _ _ _ c.key_block-key.ensures c.xor-block.ensures (c.encrypt_block-encrypted.ensures ∙ by_halves (key_of a.keys.now) c.xor-block.result) c.xor-sum.ensures
     (sym c.equal.ensures ∙ c.if-equal.false)

@@ -22,4 +22,4 @@ returns-then-not-equal c =
 
 pub returns : goal.returns
 unfolding zero_mask
-returns c = c.equal-2.ensures ∙ ap (λ (x : List ℕ). same x zero_block) (c.to_bytes-start.ensures ∙ c.prepare-p.ensures.started)
+returns c = c.equal-2.ensures ∙ ap (λ (x : List ℕ). same x zero_block) (c.from-start.ensures ∙ c.prepare-p.ensures.started)

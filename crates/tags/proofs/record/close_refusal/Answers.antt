@@ -1,18 +1,21 @@
 -- Row by row.
 use borrow.Author.Rules.{rules}
-use mathlib.Core.Path.{sym, ◌∙◌}
+use mathlib.Core.Path.{ap, sym, ◌∙◌}
 use Rattle.fips197.proofs.Keys.{has_key}
 use Rattle.mode.proofs.Runs.{is16}
 use Rattle.mode.proofs.Rows.{row_holds, row_passes, isnt16}
+use Rattle.mode.specs.declared.refusal.Refusal.TheVariants.{KeyLength, IvLength}
+use Rattle.mode.specs.Refusals.{passed}
+use Rattle.mode.proofs.Answers.{refuses_by}
 use Rattle.tags.proofs.record.close_refusal.Goals as goal
 
 pub returns-then-not_key : goal.returns-then-not_key
-returns-then-not_key c = sym (row_holds 1 _ _ (sym c.not_key.ensures ∙ c.if-not_key.true))
+returns-then-not_key c = refuses_by KeyLength (row_holds 1 _ _ (sym c.not_key.ensures ∙ c.if-not_key.true))
 
 pub returns-then-iv-ne16 : goal.returns-then-iv-ne16
 returns-then-iv-ne16 c =
     let a = c.args in
-    sym (row_passes 1 _ _ (sym c.not_key.ensures ∙ c.if-not_key.false) ∙ row_holds 2 _ _ (isnt16 a.iv.now c.if-iv-ne16.true))
+    refuses_by IvLength (row_passes 1 _ _ (sym c.not_key.ensures ∙ c.if-not_key.false) ∙ row_holds 2 _ _ (isnt16 a.iv.now c.if-iv-ne16.true))
 
 pub record_refusal-requires : goal.record_refusal-requires
 record_refusal-requires c =
@@ -24,4 +27,4 @@ record_refusal-requires c =
 pub returns : goal.returns
 returns c =
     let a = c.args in
-    c.record_refusal.ensures ∙ sym (row_passes 1 _ _ (sym c.not_key.ensures ∙ c.if-not_key.false) ∙ row_passes 2 _ _ (is16 a.iv.now c.if-iv-ne16.false))
+    c.record_refusal.ensures ∙ ap passed (sym (row_passes 1 _ _ (sym c.not_key.ensures ∙ c.if-not_key.false) ∙ row_passes 2 _ _ (is16 a.iv.now c.if-iv-ne16.false)))

@@ -1,9 +1,0 @@
--- At most one bit agrees at each turn.
-use Prim.Native.Nat.{◌≤◌, ◌-◌}
-use Rattle.hash_cases.proofs.damage.each_bit.Given as goal
-
-abbrev pub invariant-loop-bit : goal.invariant-loop-bit
-invariant-loop-bit l = (l.bit ≤ 416) × (l.agreed ≤ l.bit)
-
-abbrev pub decreases-loop-bit : goal.decreases-loop-bit
-decreases-loop-bit l = 416 - l.bit
