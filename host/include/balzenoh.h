@@ -99,24 +99,24 @@
  *  - Its size, and the stack that each call was seen to use, from its caller's frame down, as
  *    host/stack/run printed them, in bytes:
  *
- *      code       22695
- *      constants    666
+ *      code       24664
+ *      constants    703
  *      variables      0
  *
- *      seal        2896
- *      open        3135
- *      seal_run    2896
- *      check_run   2879
- *      join         380
- *      join_list    396
- *      close       1760
- *      test        1728
+ *      seal        3104
+ *      open        3503
+ *      seal_run    3120
+ *      check_run   3343
+ *      join         396
+ *      join_list    444
+ *      close       2384
+ *      test        2320
  *      jump         172
- *      sha1         644
- *      seal_sha1   2896
- *      open_sha1   3135
- *      close_sha1  1760
- *      test_sha1   1728
+ *      sha1         476
+ *      seal_sha1   3104
+ *      open_sha1   3503
+ *      close_sha1  2384
+ *      test_sha1   2320
  *
  *    No function recurses. No proof bounds the stack.
  *
