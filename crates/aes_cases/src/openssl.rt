@@ -1,7 +1,6 @@
 // The triples of a file, whose keys have `size` bytes.
 use crate::agree::Triple;
-use crate::hex::bytes;
-use crate::lines::first;
+use crate::lines::Lines;
 use cipher::engine::Engine;
 use std::alloc::{AllocError, Allocator};
 
@@ -12,13 +11,7 @@ pub fn run<A: Allocator>(
     text: &[u8],
     size: usize,
 ) -> Result<Vec<Triple, A>, AllocError> {
-    let mut triples = Vec::new(alloc);
-    let mut left = text;
-    while let Some(line) = first(left, size) {
-        let keys: [u8; 32] = bytes(line.key);
-        let key = keys.get(..size).unwrap_or_default();
-        triples.push(Triple::of(engine, key, line.plain, line.cipher))?;
-        left = line.rest;
-    }
-    Ok(triples)
+    Lines { text, size }
+        .map(|line| Triple::of(engine, line.key(), line.plain, line.cipher))
+        .collect(alloc)
 }

@@ -17,12 +17,7 @@ use runs::run::Task;
 fn run_refusal(key: &[u8], iv: &[u8], first: u32, size: usize) -> Result<(), Refusal>
     ensures { result ≡ passed (first_row (run_rows key.now iv.now first size)) }
 {
-    if cipher::not_key(key) {
-        return Err(Refusal::KeyLength);
-    }
-    if iv.len() != 16 {
-        return Err(Refusal::IvLength);
-    }
+    tags::lengths::key_and_iv(key, iv)?;
     if size % 16 != 0 {
         return Err(Refusal::Length);
     }

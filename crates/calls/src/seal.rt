@@ -22,12 +22,7 @@ fn seal_refusal(
 ) -> Result<(), Refusal>
     ensures { result ≡ passed (first_row (seal_rows (finish_named finish) aes key.now iv.now message.now room)) }
 {
-    if cipher::not_key(key) {
-        return Err(Refusal::KeyLength);
-    }
-    if iv.len() != 16 {
-        return Err(Refusal::IvLength);
-    }
+    tags::lengths::key_and_iv(key, iv)?;
     if mode::LONGEST_MESSAGE < message.len() {
         return Err(Refusal::Length);
     }

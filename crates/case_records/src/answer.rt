@@ -23,6 +23,11 @@ pub fn record(first: u32, count: u32, preauthenticator: [u8; 16]) -> RunRecord {
     }
 }
 
+// A record whose pre-authenticator is one byte 16 times.
+pub fn run(first: u32, count: u32, byte: u8) -> RunRecord {
+    record(first, count, [byte; 16])
+}
+
 // ---- refusals
 
 const REFUSALS: [Refusal; 10] = [

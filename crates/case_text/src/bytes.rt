@@ -20,3 +20,9 @@ pub fn flip_last(bytes: &mut [u8], size: usize, bits: u8) {
         flip(bytes, last, bits);
     }
 }
+
+// Bytes with one bit flipped: 0 is the lowest of the first byte.
+pub fn with_bit<const N: usize>(mut bytes: [u8; N], bit: usize) -> [u8; N] {
+    flip(&mut bytes, bit / 8, 1 << (bit % 8));
+    bytes
+}

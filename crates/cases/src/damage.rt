@@ -1,6 +1,6 @@
 // A sealed record with each of its bits flipped in turn.
 use case_records::keyed::Keyed;
-use case_text::bytes::flip;
+use case_text::bytes::with_bit;
 use case_text::hex::bytes;
 use case_text::{agreed, paper};
 use case_tools::reference::{Compared, opens};
@@ -14,22 +14,15 @@ fn sealed() -> [u8; 64] {
     )
 }
 
-fn with_bit(bit: usize) -> [u8; 64] {
-    let mut changed = sealed();
-    flip(&mut changed, bit / 8, 1 << (bit % 8));
-    changed
-}
-
 // ---- opened
 
 // With a bit flipped the tag differs, and the output is zero from end to end.
-fn refused_with(bit: usize) -> bool {
-    let expected = Err(Refusal::TagDiffers);
-    opens(Finish::Cipher, &paper::key(), &with_bit(bit), expected)
-}
-
 pub fn opened() -> usize {
-    (0..512).filter(|bit| refused_with(*bit)).count()
+    let (whole, key) = (sealed(), paper::key());
+    let expected = Err(Refusal::TagDiffers);
+    (0..512)
+        .filter(|bit| opens(Finish::Cipher, &key, &with_bit(whole, *bit), expected))
+        .count()
 }
 
 // ---- checked as two runs, joined and tested
@@ -68,7 +61,9 @@ pub fn undamaged() -> usize {
 }
 
 pub fn tested() -> usize {
+    let whole = sealed();
+    let expected = Err(Refusal::TagDiffers);
     (0..512)
-        .filter(|bit| test(&with_bit(*bit), Err(Refusal::TagDiffers)))
+        .filter(|bit| test(&with_bit(whole, *bit), expected))
         .count()
 }

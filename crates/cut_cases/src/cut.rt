@@ -1,7 +1,7 @@
 // Blocks cut into runs at random places, in a random order, and their records joined two at a time in a random order.
 ghost use Rattle.std.specs.Prelude.{◌<◌};
 
-use case_records::answer::{record, written};
+use case_records::answer::record;
 use case_records::keyed::Keyed;
 use case_text::random::Random;
 use mode::RunRecord;
@@ -65,12 +65,7 @@ impl Span {
     pub fn seal(self, keyed: Keyed, message: &[u8], out: &mut [u8]) -> Option<RunRecord> {
         let text = message.get(self.from..self.to)?;
         let lent = out.get_mut(self.from..self.stop)?;
-        let sealed = keyed.seal_run(self.first, self.last, text, lent).ok()?;
-        if written(Ok(sealed.length), Ok(()), lent.len(), lent) {
-            Some(sealed.run)
-        } else {
-            None
-        }
+        keyed.record_sealed(self.first, self.last, text, lent.len(), lent)
     }
 
     // Checks the run of ciphertext.

@@ -1,7 +1,7 @@
 // A record of the mode's paper and one made by hand, and their tags.
 ghost use Rattle.std.specs.Prelude.{◌≤◌};
 
-use case_records::answer::{record, tagged, written};
+use case_records::answer::{record, tagged};
 use case_records::keyed::Keyed;
 use case_text::bytes::flip;
 use case_text::hex::{block, bytes};
@@ -24,13 +24,7 @@ fn tag_is(keyed: Keyed, run: RunRecord, tag: [u8; 20]) -> usize
 // The record of m1, as a middle run gives it. Where the answer is not as it should be there is none.
 fn first_run(keyed: Keyed) -> Option<RunRecord> {
     let m1 = block(b"00112233445566778899AABBCCDDEEFF");
-    let mut out = [0u8; 32];
-    let sealed = keyed.seal_run(0, false, &m1, &mut out).ok()?;
-    if written(Ok(sealed.length), Ok(()), 16, &out) {
-        Some(sealed.run)
-    } else {
-        None
-    }
+    keyed.record_sealed(0, false, &m1, 16, &mut [0u8; 32])
 }
 
 // Either finish makes the tag that is printed, of one record.

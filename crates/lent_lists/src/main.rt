@@ -1,35 +1,22 @@
 #![tactic(auto)]
 // Lists of none to three run records, lent to the join of a list: lists that join, and the table's rows for a list. Each line says how
 // many cases of a group agreed.
-use case_records::answer::record;
+use case_records::answer::{record, run};
 use case_text::hex::block;
 use case_text::{agreed, report};
-use mode::{Refusal, RunRecord};
+use mode::Refusal;
 use record_list::join_list;
 use std::io;
-
-// A record whose pre-authenticator has one byte 16 times.
-fn run(first: u32, count: u32, byte: u8) -> RunRecord {
-    record(first, count, [byte; 16])
-}
-
-fn gives(list: &[RunRecord], all: RunRecord) -> bool {
-    join_list(list) == Ok(all)
-}
-
-fn gets(list: &[RunRecord], refusal: Refusal) -> bool {
-    join_list(list) == Err(refusal)
-}
 
 // One record, two and three; a full list with an empty run behind it.
 fn joined() -> usize {
     let records = [run(0, 1, 1), run(1, 2, 2), run(3, 1, 3)];
     let full = [run(0, 1048576, 7), run(1048576, 0, 0), run(1048576, 1, 1)];
     agreed(&[
-        gives(&records[..1], run(0, 1, 1)),
-        gives(&records[..2], run(0, 3, 6)),
-        gives(&records, run(0, 4, 15)),
-        gives(&full[..2], run(0, 1048576, 7)),
+        join_list(&records[..1]) == Ok(run(0, 1, 1)),
+        join_list(&records[..2]) == Ok(run(0, 3, 6)),
+        join_list(&records) == Ok(run(0, 4, 15)),
+        join_list(&full[..2]) == Ok(run(0, 1048576, 7)),
     ])
 }
 
@@ -41,22 +28,12 @@ fn kept() -> usize {
     let behind = block(b"53535353535353535353535353535353");
     let empty = block(b"1B1B1B1B1B1B1B1B1B1B1B1B1B1B1B1B");
     agreed(&[
-        gives(
-            &[run(0, 1000, 1), run(1000, 1000, 2), run(2000, 1000, 3)],
-            record(0, 3000, equal),
-        ),
-        gives(
-            &[run(0, 500, 1), run(500, 1000, 2), run(1500, 500, 3)],
-            record(0, 2000, other),
-        ),
-        gives(
-            &[run(0, 1, 1), run(1, 3, 2), run(4, 3, 3)],
-            record(0, 7, behind),
-        ),
-        gives(
-            &[run(0, 5, 1), run(5, 0, 2), run(5, 3, 3)],
-            record(0, 8, empty),
-        ),
+        join_list(&[run(0, 1000, 1), run(1000, 1000, 2), run(2000, 1000, 3)])
+            == Ok(record(0, 3000, equal)),
+        join_list(&[run(0, 500, 1), run(500, 1000, 2), run(1500, 500, 3)])
+            == Ok(record(0, 2000, other)),
+        join_list(&[run(0, 1, 1), run(1, 3, 2), run(4, 3, 3)]) == Ok(record(0, 7, behind)),
+        join_list(&[run(0, 5, 1), run(5, 0, 2), run(5, 3, 3)]) == Ok(record(0, 8, empty)),
     ])
 }
 
@@ -67,10 +44,10 @@ fn none() -> usize {
     let beyond = [run(1048576, 1, 1), run(1048577, 1, 2), run(1048578, 1, 3)];
     let blank = [run(0, 0, 0), run(0, 0, 0), run(0, 0, 0)];
     agreed(&[
-        gets(&joins[..0], Refusal::NotWhole),
-        gets(&apart[..0], Refusal::NotWhole),
-        gets(&beyond[..0], Refusal::NotWhole),
-        gets(&blank[..0], Refusal::NotWhole),
+        join_list(&joins[..0]) == Err(Refusal::NotWhole),
+        join_list(&apart[..0]) == Err(Refusal::NotWhole),
+        join_list(&beyond[..0]) == Err(Refusal::NotWhole),
+        join_list(&blank[..0]) == Err(Refusal::NotWhole),
     ])
 }
 
@@ -81,10 +58,10 @@ fn apart() -> usize {
     let order = [run(1, 1, 1), run(0, 1, 2), run(2, 1, 3)];
     let later = [run(0, 1, 1), run(1, 1, 2), run(3, 1, 3)];
     agreed(&[
-        gets(&gap, Refusal::NotNeighbours),
-        gets(&overlap[..2], Refusal::NotNeighbours),
-        gets(&order, Refusal::NotNeighbours),
-        gets(&later, Refusal::NotNeighbours),
+        join_list(&gap) == Err(Refusal::NotNeighbours),
+        join_list(&overlap[..2]) == Err(Refusal::NotNeighbours),
+        join_list(&order) == Err(Refusal::NotNeighbours),
+        join_list(&later) == Err(Refusal::NotNeighbours),
     ])
 }
 
@@ -95,10 +72,10 @@ fn beyond() -> usize {
     let last = [run(0, 1, 1), run(5, 1, 2), run(1048576, 1, 3)];
     let huge = [run(0, 1, 1), run(4294967295, 1, 2), run(0, 1, 3)];
     agreed(&[
-        gets(&alone[..1], Refusal::BeyondLimit),
-        gets(&first, Refusal::BeyondLimit),
-        gets(&last, Refusal::BeyondLimit),
-        gets(&huge[..2], Refusal::BeyondLimit),
+        join_list(&alone[..1]) == Err(Refusal::BeyondLimit),
+        join_list(&first) == Err(Refusal::BeyondLimit),
+        join_list(&last) == Err(Refusal::BeyondLimit),
+        join_list(&huge[..2]) == Err(Refusal::BeyondLimit),
     ])
 }
 

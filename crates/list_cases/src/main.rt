@@ -1,7 +1,7 @@
 #![tactic(auto)]
 // Lists of run records, joined one by one as the join of a lent list does it: lists that join, and the table's rows for a list; and masks
 // and pre-authenticators in words. Each line says how many cases of a group agreed.
-use case_records::answer::record;
+use case_records::answer::{record, run};
 use case_text::hex::block;
 use case_text::{agreed, report};
 use mode::{KeptAnswer, Refusal, RunRecord};
@@ -9,13 +9,7 @@ use std::io;
 
 mod words; // words.rt: two words for sixteen bytes
 
-// A record whose pre-authenticator is one byte sixteen times.
-fn run(first: u32, count: u32, byte: u8) -> RunRecord {
-    record(first, count, [byte; 16])
-}
-
-// ---- lists, by the step of which the join of a list is the fold
-
+// A list joined, by the step of which the join of a list is the fold.
 fn list(records: &[RunRecord]) -> KeptAnswer {
     let mut so_far = record_list::start();
     for next in records {
@@ -24,19 +18,7 @@ fn list(records: &[RunRecord]) -> KeptAnswer {
     so_far
 }
 
-// ---- what is compared
-
-// A list gives a record.
-fn gives(records: &[RunRecord], all: RunRecord) -> bool {
-    list(records).answer == Ok(all)
-}
-
-// It gets a refusal.
-fn gets(records: &[RunRecord], refusal: Refusal) -> bool {
-    list(records).answer == Err(refusal)
-}
-
-// So many powers of x were worked out for it.
+// So many powers of x were worked out for a list.
 fn takes(records: &[RunRecord], powers: u64) -> bool {
     list(records).last.total == powers
 }
@@ -53,11 +35,11 @@ fn joined() -> usize {
     let bc = record(1, 1048575, block(b"B1058668124379F209EB4EE46C84559B"));
     let abc = record(0, 1048576, block(b"D5088CBE30C38C101C3BD52AB38AF82C"));
     agreed(&[
-        gives(&[a], a),
-        gives(&[a, b], ab),
-        gives(&[b, c], bc),
-        gives(&[a, b, c], abc),
-        gives(&[a, bc], abc),
+        list(&[a]).answer == Ok(a),
+        list(&[a, b]).answer == Ok(ab),
+        list(&[b, c]).answer == Ok(bc),
+        list(&[a, b, c]).answer == Ok(abc),
+        list(&[a, bc]).answer == Ok(abc),
     ])
 }
 
@@ -67,10 +49,10 @@ fn empty_runs() -> usize {
     let full = run(0, 1048576, 7);
     let short = run(5, 3, 9);
     agreed(&[
-        gives(&[at_limit], at_limit),
-        gives(&[full, at_limit], full),
-        gives(&[run(5, 0, 0), short], short),
-        gives(&[short, run(8, 0, 0)], short),
+        list(&[at_limit]).answer == Ok(at_limit),
+        list(&[full, at_limit]).answer == Ok(full),
+        list(&[run(5, 0, 0), short]).answer == Ok(short),
+        list(&[short, run(8, 0, 0)]).answer == Ok(short),
     ])
 }
 
@@ -78,34 +60,22 @@ fn empty_runs() -> usize {
 // before one that starts at block 0, as a blank record does.
 fn apart() -> usize {
     agreed(&[
-        gets(&[run(0, 1, 1), run(2, 1, 2)], Refusal::NotNeighbours),
-        gets(&[run(0, 2, 1), run(1, 2, 2)], Refusal::NotNeighbours),
-        gets(&[run(1, 1, 1), run(0, 1, 2)], Refusal::NotNeighbours),
-        gets(
-            &[run(0, 1, 1), run(1, 1, 2), run(3, 1, 3)],
-            Refusal::NotNeighbours,
-        ),
-        gets(
-            &[run(0, 1, 1), run(2, 1, 2), run(3, 1, 3)],
-            Refusal::NotNeighbours,
-        ),
-        gets(
-            &[run(0, 1, 1), run(2, 1, 2), run(0, 1, 3)],
-            Refusal::NotNeighbours,
-        ),
+        list(&[run(0, 1, 1), run(2, 1, 2)]).answer == Err(Refusal::NotNeighbours),
+        list(&[run(0, 2, 1), run(1, 2, 2)]).answer == Err(Refusal::NotNeighbours),
+        list(&[run(1, 1, 1), run(0, 1, 2)]).answer == Err(Refusal::NotNeighbours),
+        list(&[run(0, 1, 1), run(1, 1, 2), run(3, 1, 3)]).answer == Err(Refusal::NotNeighbours),
+        list(&[run(0, 1, 1), run(2, 1, 2), run(3, 1, 3)]).answer == Err(Refusal::NotNeighbours),
+        list(&[run(0, 1, 1), run(2, 1, 2), run(0, 1, 3)]).answer == Err(Refusal::NotNeighbours),
     ])
 }
 
 // 4: alone; an empty run at 1,048,577; behind a gap, which 4 beats; numbers whose sum leaves 32 bits.
 fn beyond() -> usize {
     agreed(&[
-        gets(&[run(1, 1048576, 1)], Refusal::BeyondLimit),
-        gets(&[run(1048577, 0, 1)], Refusal::BeyondLimit),
-        gets(
-            &[run(0, 1, 1), run(5, 1, 2), run(1048576, 1, 3)],
-            Refusal::BeyondLimit,
-        ),
-        gets(&[run(0, 1, 1), run(4294967295, 1, 2)], Refusal::BeyondLimit),
+        list(&[run(1, 1048576, 1)]).answer == Err(Refusal::BeyondLimit),
+        list(&[run(1048577, 0, 1)]).answer == Err(Refusal::BeyondLimit),
+        list(&[run(0, 1, 1), run(5, 1, 2), run(1048576, 1, 3)]).answer == Err(Refusal::BeyondLimit),
+        list(&[run(0, 1, 1), run(4294967295, 1, 2)]).answer == Err(Refusal::BeyondLimit),
     ])
 }
 
@@ -113,16 +83,11 @@ fn beyond() -> usize {
 // record before the one beyond the limit; one that is beyond the limit itself.
 fn beyond_before() -> usize {
     agreed(&[
-        gets(&[run(1, 1048576, 1), run(5, 1, 2)], Refusal::BeyondLimit),
-        gets(&[run(1, 1048576, 1), run(0, 1, 2)], Refusal::BeyondLimit),
-        gets(
-            &[run(0, 1, 1), run(1048576, 1, 2), run(1, 1, 3)],
-            Refusal::BeyondLimit,
-        ),
-        gets(
-            &[run(0, 1, 1), run(1048576, 1, 2), run(1048577, 0, 3)],
-            Refusal::BeyondLimit,
-        ),
+        list(&[run(1, 1048576, 1), run(5, 1, 2)]).answer == Err(Refusal::BeyondLimit),
+        list(&[run(1, 1048576, 1), run(0, 1, 2)]).answer == Err(Refusal::BeyondLimit),
+        list(&[run(0, 1, 1), run(1048576, 1, 2), run(1, 1, 3)]).answer == Err(Refusal::BeyondLimit),
+        list(&[run(0, 1, 1), run(1048576, 1, 2), run(1048577, 0, 3)]).answer
+            == Err(Refusal::BeyondLimit),
     ])
 }
 
@@ -134,32 +99,24 @@ fn kept() -> usize {
     let in_turn = record(0, 3000, block(b"8D533AD7CA5E040482838F8F9E430842"));
     let empty = record(0, 11, block(b"DCDCDCDCDCDCDCDCDCDCDCDCDCDCDCDC"));
     agreed(&[
-        gives(
-            &[
-                run(0, 262144, 1),
-                run(262144, 262144, 2),
-                run(524288, 262144, 3),
-                run(786432, 262144, 4),
-            ],
-            equal,
-        ),
-        gives(
-            &[run(0, 1, 1), run(1, 3, 2), run(4, 3, 3), run(7, 3, 4)],
-            behind,
-        ),
-        gives(
-            &[
-                run(0, 1000, 1),
-                run(1000, 500, 2),
-                run(1500, 1000, 3),
-                run(2500, 500, 4),
-            ],
-            in_turn,
-        ),
-        gives(
-            &[run(0, 5, 1), run(5, 0, 2), run(5, 3, 3), run(8, 3, 4)],
-            empty,
-        ),
+        list(&[
+            run(0, 262144, 1),
+            run(262144, 262144, 2),
+            run(524288, 262144, 3),
+            run(786432, 262144, 4),
+        ])
+        .answer
+            == Ok(equal),
+        list(&[run(0, 1, 1), run(1, 3, 2), run(4, 3, 3), run(7, 3, 4)]).answer == Ok(behind),
+        list(&[
+            run(0, 1000, 1),
+            run(1000, 500, 2),
+            run(1500, 1000, 3),
+            run(2500, 500, 4),
+        ])
+        .answer
+            == Ok(in_turn),
+        list(&[run(0, 5, 1), run(5, 0, 2), run(5, 3, 3), run(8, 3, 4)]).answer == Ok(empty),
     ])
 }
 

@@ -1,7 +1,6 @@
 // Two words for sixteen bytes (ticket P12). The masks and pre-authenticators are those that document 01 and the mode's paper print, with
 // the words as numbers.
 use blocks::words::Words;
-use case_records::answer::written;
 use case_records::keyed::Keyed;
 use case_text::hex::block;
 use case_text::{agreed, paper};
@@ -67,17 +66,6 @@ fn record(first: u32, count: u32, high: u64, low: u64) -> RunRecord {
     }
 }
 
-// The record of a block of the paper's, which has a block number, sealed. Where the answer is not as it should be there is none.
-fn sealed(keyed: Keyed, first: u32, text: &[u8]) -> Option<RunRecord> {
-    let mut out = [0u8; 32];
-    let sealed = keyed.seal_run(first, false, text, &mut out).ok()?;
-    if written(Ok(sealed.length), Ok(()), 16, &out) {
-        Some(sealed.run)
-    } else {
-        None
-    }
-}
-
 // The records of the paper's first block, sealed and checked, of its second, checked, and of both.
 pub fn records() -> usize {
     let m1 = block(b"00112233445566778899AABBCCDDEEFF");
@@ -90,10 +78,11 @@ pub fn records() -> usize {
     let first = record(0, 1, 0xC31FDB743AA199CB, 0x78AA156AED162EB9);
     let second = record(1, 1, 0xE005EF3D83A7F60B, 0xD8486A7B15CC93DD);
     let both = record(0, 2, 0x663A59D5F6E4C59D, 0x291C40AECFE0CE28);
+    let sealed = keyed.record_sealed(0, false, &m1, 16, &mut [0u8; 32]);
     let left = keyed.check_run(0, &c1);
     let right = keyed.check_run(1, &c2);
     agreed(&[
-        sealed(keyed, 0, &m1) == Some(first),
+        sealed == Some(first),
         left == Ok(first),
         right == Ok(second),
         left.and_then(|left| left.join(right?)) == Ok(both),

@@ -2,7 +2,7 @@
 // a run of its own at its block number.
 ghost use Rattle.std.specs.Prelude.{◌≤◌};
 
-use case_records::answer::{record, written};
+use case_records::answer::record;
 use case_records::keyed::Keyed;
 use mode::RunRecord;
 use std::alloc::{AllocError, Global};
@@ -26,13 +26,10 @@ impl Link {
     // One block sealed and joined to those before it. Where an answer is not as it should be there is none.
     pub fn next(self, keyed: Keyed, number: u32) -> Option<Link> {
         let mut out = [0u8; 32];
-        let sealed = keyed.seal_run(number, false, &self.block, &mut out).ok()?;
-        if !written(Ok(sealed.length), Ok(()), 16, &out) {
-            return None;
-        }
+        let run = keyed.record_sealed(number, false, &self.block, 16, &mut out)?;
         Some(Link {
             block: blocks::block::load(&out, 0),
-            run: self.run.join(sealed.run).ok()?,
+            run: self.run.join(run).ok()?,
         })
     }
 }

@@ -11,6 +11,10 @@ pub record Prepares (key iv keys start : List ℕ) : Type 0 where
   pub expanded : Expands key keys
   pub started : start ≡ start_mask aes key iv
 
+-- the rows of a key and an IV
+abbrev pub key_and_iv_rows : List ℕ → List ℕ → List (ℕ × Bool)
+key_and_iv_rows key iv = (1, not_key key) ∷ (2, not16 iv) ∷ []
+
 -- the rows that go by the record that is closed, and by the mask that closes it
 abbrev pub record_rows : List ℕ → List ℕ → RunRecord → List (ℕ × Bool)
 record_rows key iv r = (4, beyond r.first r.count) ∷ (9, not_whole in_words r) ∷ (10, zero_mask aes key iv) ∷ []

@@ -36,12 +36,7 @@ fn record_refusal(key: &[u8], iv: &[u8], run: RunRecord) -> Result<(), Refusal>
 fn close_refusal(key: &[u8], iv: &[u8], run: RunRecord) -> Result<(), Refusal>
     ensures { result ≡ passed (first_row (close_rows in_words aes key.now iv.now run)) }
 {
-    if cipher::not_key(key) {
-        return Err(Refusal::KeyLength);
-    }
-    if iv.len() != 16 {
-        return Err(Refusal::IvLength);
-    }
+    crate::lengths::key_and_iv(key, iv)?;
     record_refusal(key, iv, run)
 }
 
@@ -55,12 +50,7 @@ fn test_refusal(
 ) -> Result<(), Refusal>
     ensures { result ≡ passed (first_row (test_first_rows (finish_named finish) key.now iv.now run tag.now)) }
 {
-    if cipher::not_key(key) {
-        return Err(Refusal::KeyLength);
-    }
-    if iv.len() != 16 {
-        return Err(Refusal::IvLength);
-    }
+    crate::lengths::key_and_iv(key, iv)?;
     if tag.len() != mode::finish::tag_length(finish) {
         return Err(Refusal::Length);
     }

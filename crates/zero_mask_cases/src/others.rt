@@ -5,7 +5,7 @@ use crate::pair;
 use case_records::answer::{answered, written};
 use case_records::keyed::Keyed;
 use case_text::agreed;
-use case_text::bytes::flip;
+use case_text::bytes::{flip, with_bit};
 use case_text::hex::bytes;
 use case_tools::open::opens;
 use mode::Refusal;
@@ -98,16 +98,10 @@ pub fn half_zero() -> usize {
     ])
 }
 
-// An IV with a bit flipped.
-fn with_bit(iv: [u8; 16], bit: usize) -> [u8; 16] {
-    let mut other = iv;
-    flip(&mut other, bit / 8, 1 << (bit % 8));
-    other
-}
-
 // Under a zero key it is sealed, under the key's IV with each of its bits flipped in turn.
 pub fn other_ivs(key: &[u8]) -> usize {
+    let iv = pair::iv_of(key);
     (0..128)
-        .filter(|bit| empty_gets(key, with_bit(pair::iv_of(key), *bit), Ok(()), 48))
+        .filter(|bit| empty_gets(key, with_bit(iv, *bit), Ok(()), 48))
         .count()
 }

@@ -1,50 +1,58 @@
--- Row by row.
-use borrow.Author.Rules.{rules}
+-- The key and the IV, then row by row.
 use borrow.Author.Tests.{eq-eqb, ne_eqb}
 use mathlib.Core.Path.{sym, ap, ◌∙◌}
-use mathlib.Core.Bool.{not}
-use Prim.Native.Nat.{◌/◌, ◌%◌}
+use mathlib.Core.Bool.{Bool, not}
+use mathlib.Core.List.{List, [], ◌∷◌}
+use Prim.Native.Nat.{ℕ, ◌/◌, ◌%◌}
 use native.Mathlib.Omega.{arith}
-use Rattle.fips197.proofs.Keys.{has_key}
-use Rattle.mode.proofs.Runs.{is16, within}
-use Rattle.mode.proofs.Rows.{row_holds, row_passes, no_row, isnt16, is_beyond}
-use Rattle.mode.specs.declared.refusal.Refusal.TheVariants.{KeyLength, IvLength, Length, BeyondLimit, ZeroMask}
-use Rattle.mode.proofs.Answers.{refuses_by, lets_pass}
+use lib.Dec.{eqb}
+use Rattle.std.proofs.lemmas.Result.{err_from_is_err_and}
+use Rattle.mode.specs.Aes.{aes}
+use Rattle.mode.specs.Table.{beyond, zero_mask}
+use Rattle.mode.proofs.Runs.{within}
+use Rattle.mode.proofs.Rows.{row_holds, row_passes, no_row, is_beyond}
+use Rattle.mode.specs.declared.refusal.Refusal.TheVariants.{Length, BeyondLimit, ZeroMask}
+use Rattle.mode.proofs.Answers.{refuses_by, lets_pass, refuses_all}
+use Rattle.tags.specs.Work.{key_and_iv_rows}
+use Rattle.tags.proofs.KeyAndIv.{lengths_pass, key_taken, iv_taken}
 use Rattle.calls.proofs.run.run_refusal.Goals as goal
 
-pub returns-then-not_key : goal.returns-then-not_key
-returns-then-not_key c = refuses_by KeyLength (row_holds 1 _ _ (sym c.not_key.ensures ∙ c.if-not_key.true))
+-- the rows behind those of the key and the IV
+abbrev rest : List ℕ → List ℕ → ℕ → ℕ → List (ℕ × Bool)
+rest key iv first size = (3, not (eqb (size % 16) 0)) ∷ (4, beyond first (size / 16)) ∷ (10, zero_mask aes key iv) ∷ []
 
-pub returns-then-iv-ne16 : goal.returns-then-iv-ne16
-returns-then-iv-ne16 c =
+pub returns-in_err-key_and_iv : goal.returns-in_err-key_and_iv
+returns-in_err-key_and_iv c =
     let a = c.args in
-    refuses_by IvLength (row_passes 1 _ _ (sym c.not_key.ensures ∙ c.if-not_key.false) ∙ row_holds 2 _ _ (isnt16 a.iv.now c.if-iv-ne16.true))
+    let p = err_from_is_err_and c.from_residual.result c.from_residual.ensures.1 in
+    rw (p.1, p.2) (refuses_all (key_and_iv_rows a.key.now a.iv.now) (rest a.key.now a.iv.now a.first a.size) c.in_err-key_and_iv.ensures)
 
 pub returns-then-size-ne0 : goal.returns-then-size-ne0
 returns-then-size-ne0 c =
     let a = c.args in
-    refuses_by Length (row_passes 1 _ _ (sym c.not_key.ensures ∙ c.if-not_key.false) ∙ row_passes 2 _ _ (is16 a.iv.now c.if-iv-ne16.false) ∙ row_holds 3 _ _ (ap not (ne_eqb (a.size % 16) 0 c.if-size-ne0.true)))
+    refuses_by Length (lengths_pass a.key.now a.iv.now c.in_ok-key_and_iv.ensures _ ∙ row_holds 3 _ _ (ap not (ne_eqb (a.size % 16) 0 c.if-size-ne0.true)))
 
 pub returns-then-first-size-gt-LIMIT : goal.returns-then-first-size-gt-LIMIT
 returns-then-first-size-gt-LIMIT c =
     let a = c.args in
-    refuses_by BeyondLimit (row_passes 1 _ _ (sym c.not_key.ensures ∙ c.if-not_key.false) ∙ row_passes 2 _ _ (is16 a.iv.now c.if-iv-ne16.false) ∙ row_passes 3 _ _ (ap not (eq-eqb (a.size % 16) 0 c.if-size-ne0.false)) ∙ row_holds 4 _ _ (is_beyond a.first (a.size / 16) (omega arith)))
+    refuses_by BeyondLimit (lengths_pass a.key.now a.iv.now c.in_ok-key_and_iv.ensures _ ∙ row_passes 3 _ _ (ap not (eq-eqb (a.size % 16) 0 c.if-size-ne0.false)) ∙ row_holds 4 _ _ (is_beyond a.first (a.size / 16) (omega arith)))
 
 pub zero_mask-requires : goal.zero_mask-requires
 zero_mask-requires c =
+    let a = c.args in
     record {
-      key_length = has_key _ (sym c.not_key.ensures ∙ c.if-not_key.false);
-      iv_len = search rules;
+      key_length = key_taken a.key.now a.iv.now c.in_ok-key_and_iv.ensures;
+      iv_len = iv_taken a.key.now a.iv.now c.in_ok-key_and_iv.ensures;
     }
 
 pub returns-then-zero_mask : goal.returns-then-zero_mask
 returns-then-zero_mask c =
     let a = c.args in
-    refuses_by ZeroMask (row_passes 1 _ _ (sym c.not_key.ensures ∙ c.if-not_key.false) ∙ row_passes 2 _ _ (is16 a.iv.now c.if-iv-ne16.false) ∙ row_passes 3 _ _ (ap not (eq-eqb (a.size % 16) 0 c.if-size-ne0.false)) ∙ row_passes 4 _ _ (within a.first (a.size / 16) (omega arith))
+    refuses_by ZeroMask (lengths_pass a.key.now a.iv.now c.in_ok-key_and_iv.ensures _ ∙ row_passes 3 _ _ (ap not (eq-eqb (a.size % 16) 0 c.if-size-ne0.false)) ∙ row_passes 4 _ _ (within a.first (a.size / 16) (omega arith))
     ∙ row_holds 10 _ _ (sym c.zero_mask.ensures ∙ c.if-zero_mask.true))
 
 pub returns : goal.returns
 returns c =
     let a = c.args in
-    lets_pass (row_passes 1 _ _ (sym c.not_key.ensures ∙ c.if-not_key.false) ∙ row_passes 2 _ _ (is16 a.iv.now c.if-iv-ne16.false) ∙ row_passes 3 _ _ (ap not (eq-eqb (a.size % 16) 0 c.if-size-ne0.false)) ∙ row_passes 4 _ _ (within a.first (a.size / 16) (omega arith))
+    lets_pass (lengths_pass a.key.now a.iv.now c.in_ok-key_and_iv.ensures _ ∙ row_passes 3 _ _ (ap not (eq-eqb (a.size % 16) 0 c.if-size-ne0.false)) ∙ row_passes 4 _ _ (within a.first (a.size / 16) (omega arith))
     ∙ row_passes 10 _ _ (sym c.zero_mask.ensures ∙ c.if-zero_mask.false) ∙ no_row)

@@ -2,7 +2,7 @@
 use borrow.Author.Rules.{rules}
 use mathlib.Core.Path.{◌≡◌, sym, ap, ◌∙◌}
 use mathlib.Core.List.{List, ◌++◌}
-use Prim.Native.Nat.{ℕ, ◌+◌, ◌-◌, ◌*◌, ◌/◌}
+use Prim.Native.Nat.{ℕ, ◌+◌, ◌-◌, ◌*◌, ◌/◌, ◌≤◌}
 use native.Mathlib.Omega.{arith}
 use lib.ListN.{length, take}
 use lib.Seq.{length-take-le}
@@ -18,22 +18,20 @@ use Rattle.runs.specs.Run.{ran}
 use Rattle.opening.specs.Work.{front_of}
 use Rattle.opening.proofs.Passes.{front_taken, front_long}
 use Rattle.opening.proofs.message.write.Goals as goal
-use Rattle.opening.proofs.message.write.Tie as tie
-use Rattle.opening.proofs.message.write.Lts as lts
-use Rattle.opening.proofs.message.write.Reads as reads
-
-abbrev At_start : Type 0
-At_start = lts.Start tie.the-claims reads.Pre reads.Post tie.handed_clauses
 
 -- the bytes of the last block that are the message's
-part-long : (c : At_start) → length (take c.args.end c.args.last) ≡ c.args.end
-part-long c = let l : length c.args.last ≡ 16 = search rules in length-take-le c.args.end c.args.last (omega (arith, l, c.requires.end_bound))
+part-long : (last : List ℕ) (end : ℕ) → length last ≡ 16 → end ≤ 16 → length (take end last) ≡ end
+part-long last end l h = length-take-le end last (omega (arith, l, h))
 
 pub slice_bounds-put-end : goal.slice_bounds-put-end
-slice_bounds-put-end c = sym (part-long c.before.before.before.before.before.before.before.before.before)
+slice_bounds-put-end c =
+    let l : length c.args.last ≡ 16 = search rules in
+    sym (part-long c.args.last c.args.end l (omega (arith, c.requires.end_bound)))
 
 pub put-requires : goal.put-requires
-put-requires c = omega (arith, part-long c.before.before.before.before.before.before.before.before.before, c.run.auto.out, c.requires.end_in_bounds)
+put-requires c =
+    let l : length c.args.last ≡ 16 = search rules in
+    omega (arith, part-long c.args.last c.args.end l (omega (arith, c.requires.end_bound)), c.run.auto.out, c.requires.end_in_bounds)
 
 pub returns : goal.returns
 unfolding ran wrote front_of
@@ -47,6 +45,7 @@ returns c =
     let w : y.new.out ≡ front ++ zeros (room - size) =
     over_zeros (size / 16 * 16) size (ran Open (key_of a.keys.now) (first_blocks (size / 16) (padded a.text.now)) (bytes_of a.start) zero_block).output a.out.now _ (omega (arith, h.least, h.aligned)) c.requires.fresh.zero y.ensures.written
     ∙ ap (λ (b : List (List ℕ)). (ran Open (key_of a.keys.now) b (bytes_of a.start) zero_block).output ++ zeros (room - size)) (front_taken a.text.now h) in
-    let k = part-long c.before.before.before.before.before.before.before.before.before.before.before.before in
+    let l : length c.args.last ≡ 16 = search rules in
+    let k = part-long c.args.last c.args.end l (omega (arith, c.requires.end_bound)) in
     stored_after (length (take a.end a.last)) front y.new.out _ (take a.end a.last) size (room - size) (front_long a.text.now h (key_of a.keys.now) (bytes_of a.start) c.requires.expanded.size (block-bytes_of a.start).long) w c.put.ensures
     ∙ ap (λ (n : ℕ). front ++ take a.end a.last ++ zeros n) (let e : room - size - length (take a.end a.last) ≡ room - (size + a.end) = omega (arith, k) in e)

@@ -1,30 +1,27 @@
 -- Row by row.
-use borrow.Author.Rules.{rules}
 use mathlib.Core.Path.{ap, sym, ◌∙◌}
-use Rattle.fips197.proofs.Keys.{has_key}
-use Rattle.mode.proofs.Runs.{is16}
-use Rattle.mode.proofs.Rows.{row_holds, row_passes, isnt16}
-use Rattle.mode.specs.declared.refusal.Refusal.TheVariants.{KeyLength, IvLength}
+use Rattle.std.proofs.lemmas.Result.{err_from_is_err_and}
 use Rattle.mode.specs.Refusals.{passed}
-use Rattle.mode.proofs.Answers.{refuses_by}
+use Rattle.mode.proofs.Answers.{refuses_all}
+use Rattle.tags.specs.Work.{key_and_iv_rows, record_rows}
+use Rattle.tags.proofs.KeyAndIv.{lengths_pass, key_taken, iv_taken}
 use Rattle.tags.proofs.record.close_refusal.Goals as goal
 
-pub returns-then-not_key : goal.returns-then-not_key
-returns-then-not_key c = refuses_by KeyLength (row_holds 1 _ _ (sym c.not_key.ensures ∙ c.if-not_key.true))
-
-pub returns-then-iv-ne16 : goal.returns-then-iv-ne16
-returns-then-iv-ne16 c =
+pub returns-in_err-key_and_iv : goal.returns-in_err-key_and_iv
+returns-in_err-key_and_iv c =
     let a = c.args in
-    refuses_by IvLength (row_passes 1 _ _ (sym c.not_key.ensures ∙ c.if-not_key.false) ∙ row_holds 2 _ _ (isnt16 a.iv.now c.if-iv-ne16.true))
+    let p = err_from_is_err_and c.from_residual.result c.from_residual.ensures.1 in
+    rw (p.1, p.2) (refuses_all (key_and_iv_rows a.key.now a.iv.now) (record_rows a.key.now a.iv.now a.run) c.in_err-key_and_iv.ensures)
 
 pub record_refusal-requires : goal.record_refusal-requires
 record_refusal-requires c =
+    let a = c.args in
     record {
-      key_length = has_key _ (sym c.not_key.ensures ∙ c.if-not_key.false);
-      iv_len = search rules;
+      key_length = key_taken a.key.now a.iv.now c.in_ok-key_and_iv.ensures;
+      iv_len = iv_taken a.key.now a.iv.now c.in_ok-key_and_iv.ensures;
     }
 
 pub returns : goal.returns
 returns c =
     let a = c.args in
-    c.record_refusal.ensures ∙ ap passed (sym (row_passes 1 _ _ (sym c.not_key.ensures ∙ c.if-not_key.false) ∙ row_passes 2 _ _ (is16 a.iv.now c.if-iv-ne16.false)))
+    c.record_refusal.ensures ∙ ap passed (sym (lengths_pass a.key.now a.iv.now c.in_ok-key_and_iv.ensures (record_rows a.key.now a.iv.now a.run)))

@@ -1,35 +1,33 @@
 -- What is laid out is hashed, and not the zeros behind it.
-use mathlib.Core.Path.{refl, sym, ap, ◌∙◌}
-use Prim.Native.Nat.{◌+◌, ◌≤◌}
+use mathlib.Core.Path.{◌≡◌, refl, sym, ap, ◌∙◌}
+use mathlib.Core.List.{List}
+use Prim.Native.Nat.{ℕ, ◌+◌, ◌≤◌}
 use native.Mathlib.Omega.{arith}
-use lib.ListN.{length}
+use lib.ListN.{length, take}
 use lib.Seq.{length-take-le}
 use Rattle.blocks.specs.Words.{bytes_of}
 use Rattle.blocks.proofs.Bridge.{block-bytes_of}
+use Rattle.fips197.specs.Aes.{KeyLength}
 use Rattle.fips197.proofs.Keys.{at_most_32}
 use Rattle.fips180.specs.Sha1.{sha1}
 use Rattle.mode.specs.Mode.{hashed_tag}
 use Rattle.tags.proofs.Text.{read_again}
 use Rattle.tags.proofs.tag.hashed_tag.Goals as goal
-use Rattle.tags.proofs.tag.hashed_tag.Tie as tie
-use Rattle.tags.proofs.tag.hashed_tag.Lts as lts
-use Rattle.tags.proofs.tag.hashed_tag.Reads as reads
-
-abbrev At_after_lay_out : Type 0
-At_after_lay_out = lts.After-lay_out tie.the-claims reads.Pre reads.Post tie.handed_clauses
 
 -- the key and two blocks are within the text
-within : (c : At_after_lay_out) → length c.args.key.now + 32 ≤ length c.lay_out.new.text
-within c = omega (arith, at_most_32 c.args.key.now c.requires, c.lay_out.auto.text)
+within : (key text : List ℕ) → KeyLength key → length text ≡ 64 → (length key + 32 ≤ length text) × (length (take (length key + 32) text) ≡ length key + 32)
+within key text k l =
+    let h : length key + 32 ≤ length text = omega (arith, at_most_32 key k, l) in
+    (h, length-take-le (length key + 32) text h)
 
 pub slice_bounds-text-end : goal.slice_bounds-text-end
-slice_bounds-text-end c = within c.before.before
+slice_bounds-text-end c = (within c.args.key.now c.lay_out.new.text c.requires c.lay_out.auto.text).0
 
 pub slice_bounds-digest-end : goal.slice_bounds-digest-end
-slice_bounds-digest-end c = sym (length-take-le (length c.args.key.now + 32) c.lay_out.new.text (within c.before.before.before))
+slice_bounds-digest-end c = sym (within c.args.key.now c.lay_out.new.text c.requires c.lay_out.auto.text).1
 
 pub digest-requires : goal.digest-requires
-digest-requires c = omega (arith, at_most_32 c.args.key.now c.requires, length-take-le (length c.args.key.now + 32) c.lay_out.new.text (within c.before.before.before))
+digest-requires c = omega (arith, at_most_32 c.args.key.now c.requires, (within c.args.key.now c.lay_out.new.text c.requires c.lay_out.auto.text).1)
 
 pub returns : goal.returns
 unfolding hashed_tag
