@@ -99,24 +99,24 @@
  *  - Its size, and the stack that each call was seen to use, from its caller's frame down, as
  *    host/stack/run printed them, in bytes:
  *
- *      code       24664
+ *      code       24715
  *      constants    703
  *      variables      0
  *
  *      seal        3104
  *      open        3503
- *      seal_run    3120
- *      check_run   3343
+ *      seal_run    3136
+ *      check_run   3327
  *      join         396
  *      join_list    444
- *      close       2384
- *      test        2320
+ *      close       2368
+ *      test        2336
  *      jump         172
  *      sha1         476
  *      seal_sha1   3104
  *      open_sha1   3503
- *      close_sha1  2384
- *      test_sha1   2320
+ *      close_sha1  2368
+ *      test_sha1   2336
  *
  *    No function recurses. No proof bounds the stack.
  *
