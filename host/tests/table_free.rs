@@ -8,7 +8,8 @@ use std::fs;
 use std::path::{Path, PathBuf};
 
 /// The engine, the steps below it, and the groups and blocks that it takes its input from.
-const TABLE_FREE: [&str; 4] = ["aes_arithmetic/src", "aes_steps/src", "groups/src", "blocks/src/words.rt"];
+const TABLE_FREE: [&str; 5] =
+    ["aes_arithmetic/src", "aes_steps/src", "groups/src", "blocks/src/words.rt", "blocks/src/block.rt"];
 
 /// What may be compared: counters of blocks, rounds, words and bytes, and what is counted from the key's length; `rev` has a loop count down.
 const COUNTERS: [&str; 11] = ["i", "n", "from", "to", "in", "left", "words", "BLOCKS", "nk", "end", "rev"];

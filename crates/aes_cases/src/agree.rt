@@ -1,5 +1,5 @@
 // What a case checks, on the engine that it is given.
-ghost use Rattle.std.specs.Prelude.{◌≡◌, length, false};
+ghost use Rattle.std.specs.Prelude.{◌≡◌, ◌≤◌, length, false};
 ghost use Rattle.fips197.specs.Aes.{not_key};
 ghost use Rattle.cipher.specs.Keys.{Expanded};
 
@@ -101,7 +101,9 @@ pub fn middles(
     plain: [u8; 16],
     cipher: [u8; 16],
     middle: [u8; 16],
-) -> usize {
+) -> usize
+    ensures { result ≤ 2 }
+{
     match Keyed::of(engine, key) {
         Some(keyed) => agreed(&[
             keyed.from_plaintext(plain) == middle,

@@ -45,20 +45,17 @@ fn report_tables(rt: &impl Print) -> io::Result<()> {
 
 // ---- the triples of a file, under keys of one length
 
-fn report_triples<R: Print + Alloc>(
-    rt: &R,
+fn report_triples(
+    rt: &impl Print,
     engine: Engine,
     text: &[u8],
     size: usize,
     all: usize,
 ) -> io::Result<()> {
-    let triples = openssl::run(rt.alloc(), engine, text, size)?;
-    let encrypted = triples.iter().filter(|triple| triple.encrypted).count();
-    report(rt, "OpenSSL, encryption", encrypted, all, "blocks")?;
-    let decrypted = triples.iter().filter(|triple| triple.decrypted).count();
-    report(rt, "OpenSSL, decryption", decrypted, all, "blocks")?;
-    let met = triples.iter().filter(|triple| triple.met).count();
-    report(rt, "OpenSSL, halves that meet", met, all, "blocks")
+    let agreed = openssl::run(engine, text, size);
+    report(rt, "OpenSSL, encryption", agreed.encrypted, all, "blocks")?;
+    report(rt, "OpenSSL, decryption", agreed.decrypted, all, "blocks")?;
+    report(rt, "OpenSSL, halves that meet", agreed.met, all, "blocks")
 }
 
 fn run_file<R: Files + Print + Alloc>(

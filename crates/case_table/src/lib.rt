@@ -1,6 +1,8 @@
 #![tactic(auto)]
 // A table of cases in a data file. A line is a case: the name of a call, numbers and digits, and what the call gets. Lines that start with
 // `group` part the cases into groups; empty lines and those that start with # say nothing.
+ghost use Rattle.std.specs.Prelude.{◌<◌, length, IfSome};
+
 use crate::keys::lengthened;
 use case_records::keyed::Keyed;
 use case_records::{jump, record};
@@ -80,30 +82,78 @@ impl Table {
 // What a line starts with whose rest is the name of a group.
 const GROUP: &[u8] = b"group ";
 
-// Whether a line is a case, though maybe one that no call takes.
+// Whether a line of a group is a case, though maybe one that no call takes.
 fn is_case(line: &[u8]) -> bool {
-    !line.is_empty() && !line.starts_with(b"#") && !line.starts_with(GROUP)
+    !line.is_empty() && !line.starts_with(b"#")
+}
+
+// A text up to the line of its next group, where that is not the first line, and the rest from that line on.
+fn split_group(text: &[u8]) -> Option<(&[u8], &[u8])>
+    ensures { IfSome result (λ parts. length parts.1.now < length text.now) }
+{
+    let at = text
+        .windows(GROUP.len() + 1)
+        .position(|window| match window {
+            [b'\n', line @ ..] => line == GROUP,
+            _ => false,
+        })?;
+    Some((&text[..at], &text[at + 1..]))
+}
+
+// A text up to the end of its first line, and from there on.
+fn split_line(text: &[u8]) -> (&[u8], &[u8]) {
+    let size = text
+        .iter()
+        .position(|byte| *byte == b'\n')
+        .unwrap_or(text.len());
+    text.split_at(size)
+}
+
+// How many cases agreed, and how many there are.
+#[derive(Clone, Copy)]
+struct Counts {
+    agreed: usize,
+    all: usize,
 }
 
 impl Table {
-    // The cases of a group, whose line comes first. Before the first group there is no such line, and none to report where there is no case.
-    fn run_group(&self, rt: &impl Print, group: &[&[u8]]) -> io::Result<()> {
-        let agreed = group.iter().filter(|line| self.agrees(line)).count();
-        let all = group.iter().filter(|line| is_case(line)).count();
-        match group.first().and_then(|line| line.strip_prefix(GROUP)) {
-            Some(name) => report(rt, name, agreed, all),
-            None if 0 < all => report(rt, "no group", 0, all),
-            None => Ok(()),
+    // The lines of a group, behind that which names it.
+    fn counts(&self, lines: &[u8]) -> Counts {
+        let mut counts = Counts { agreed: 0, all: 0 };
+        for line in lines.split(|byte| *byte == b'\n') {
+            if is_case(line) {
+                let agrees = usize::from(self.agrees(line));
+                counts = Counts {
+                    agreed: counts.agreed.saturating_add(agrees),
+                    all: counts.all.saturating_add(1),
+                };
+            }
         }
+        counts
     }
 
-    // Runs the cases of a data file.
+    // The cases of a group, whose line comes first. Before the first group there is no such line, and none to report where there is no case.
+    fn run_group(&self, rt: &impl Print, group: &[u8]) -> io::Result<()> {
+        let Some(rest) = group.strip_prefix(GROUP) else {
+            let all = self.counts(group).all;
+            if all == 0 {
+                return Ok(());
+            }
+            return report(rt, "no group", 0, all);
+        };
+        let (name, lines) = split_line(rest);
+        let counts = self.counts(lines);
+        report(rt, name, counts.agreed, counts.all)
+    }
+
+    // Runs the cases of a data file, a group at a time, so that nothing is kept of its lines.
     pub fn run<R: Files + Print + Alloc>(&self, rt: &R, path: &str) -> io::Result<()> {
         let text = file::read(rt, path)?;
-        let lines: Vec<&[u8], R::A> = text.split(|byte| *byte == b'\n').collect(rt.alloc())?;
-        for group in lines.chunk_by(|_, next| !next.starts_with(GROUP)) {
+        let mut left: &[u8] = &text;
+        while let Some((group, rest)) = split_group(left) {
             self.run_group(rt, group)?;
+            left = rest;
         }
-        Ok(())
+        self.run_group(rt, left)
     }
 }

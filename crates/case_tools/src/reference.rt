@@ -102,6 +102,41 @@ fn of_line(finish: Finish, line: &[u8]) -> Compared {
     )
 }
 
+// How many records agreed, by what was tried.
+#[derive(Clone, Copy, Debug, PartialEq, Eq)]
+pub struct Agreed {
+    pub sealed: usize,
+    pub opened: usize,
+    pub exact: usize,
+    pub tested: usize,
+}
+
+impl Agreed {
+    // With one record more.
+    fn with(self, one: Compared) -> Agreed {
+        Agreed {
+            sealed: self.sealed.saturating_add(usize::from(one.sealed)),
+            opened: self.opened.saturating_add(usize::from(one.opened)),
+            exact: self.exact.saturating_add(usize::from(one.exact)),
+            tested: self.tested.saturating_add(usize::from(one.tested)),
+        }
+    }
+}
+
+// The records of the lines of a text.
+pub fn run(finish: Finish, text: &[u8]) -> Agreed {
+    let mut agreed = Agreed {
+        sealed: 0,
+        opened: 0,
+        exact: 0,
+        tested: 0,
+    };
+    for line in text.split(|byte| *byte == b'\n') {
+        agreed = agreed.with(of_line(finish, line));
+    }
+    agreed
+}
+
 // Says of the lines of a data file, of which there are `all`, how many agreed, by what was tried.
 pub fn run_file<R: Files + Print + Alloc>(
     rt: &R,
@@ -110,16 +145,14 @@ pub fn run_file<R: Files + Print + Alloc>(
     all: usize,
 ) -> io::Result<()> {
     let text = file::read(rt, path)?;
-    let records: Vec<Compared, R::A> = text
-        .split(|byte| *byte == b'\n')
-        .map(|line| of_line(finish, line))
-        .collect(rt.alloc())?;
-    let sealed = records.iter().filter(|compared| compared.sealed).count();
-    report(rt, "reference records, sealed", sealed, all)?;
-    let opened = records.iter().filter(|compared| compared.opened).count();
-    report(rt, "reference records, opened", opened, all)?;
-    let exact = records.iter().filter(|compared| compared.exact).count();
-    report(rt, "reference records, into their length", exact, all)?;
-    let tested = records.iter().filter(|compared| compared.tested).count();
-    report(rt, "reference records, tested", tested, all)
+    let agreed = run(finish, &text);
+    report(rt, "reference records, sealed", agreed.sealed, all)?;
+    report(rt, "reference records, opened", agreed.opened, all)?;
+    report(
+        rt,
+        "reference records, into their length",
+        agreed.exact,
+        all,
+    )?;
+    report(rt, "reference records, tested", agreed.tested, all)
 }

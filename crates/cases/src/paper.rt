@@ -20,7 +20,9 @@ fn run_gives(keyed: Keyed, text: &[u8], cipher: &[u8], run: RunRecord) -> usize
 }
 
 // The paper's first block, m1, alone: its ciphertext, its record and the tag.
-fn one_block(keyed: Keyed, c1: [u8; 16], a1: [u8; 16], tag: [u8; 16]) -> usize {
+fn one_block(keyed: Keyed, c1: [u8; 16], a1: [u8; 16], tag: [u8; 16]) -> usize
+    ensures { result ≤ 5 }
+{
     let m1 = block(b"00112233445566778899AABBCCDDEEFF");
     let run = record(0, 1, a1);
     run_gives(keyed, &m1, &c1, run) + tag_is(Finish::Cipher, keyed, run, &tag)

@@ -1,51 +1,47 @@
 // Blocks cut into runs at random places, in a random order, and their records joined two at a time in a random order.
-ghost use Rattle.std.specs.Prelude.{◌<◌};
+ghost use Rattle.std.specs.Prelude.{◌<◌, ◌≤◌};
 
 use case_records::answer::record;
 use case_records::keyed::Keyed;
 use case_text::random::Random;
 use mode::RunRecord;
-use std::alloc::{AllocError, Global};
 
-// The block numbers where the runs start, none before the one in front of it, and the order in which the runs are worked, each once. The last
-// run goes to the end. Runs may be empty. They are joined as `random` says.
-#[derive(Drop)]
+// The most runs.
+const MOST: usize = 8;
+
+// Runs 0 to `runs` - 1. Run i starts at block `starts[i]`, none before the one in front of it; the last run goes to the end. Runs may be empty. They
+// are worked in the order `order[0]`, `order[1]`, .., and joined as `random` says.
+#[derive(Clone, Copy)]
 pub struct Cut {
-    starts: Vec<usize>,
-    order: Vec<usize>,
+    runs: usize,
+    starts: [usize; MOST],
+    order: [usize; MOST],
     random: Random,
 }
 
 // ---- making a cut
 
-fn starts(
-    alloc: Global,
-    mut random: Random,
-    runs: usize,
-    count: usize,
-) -> Result<Vec<usize>, AllocError> {
-    let mut starts = vec![in alloc; 0usize]?;
+fn starts(mut random: Random, count: usize) -> [usize; MOST] {
+    let mut starts = [0usize; MOST];
     let mut at: usize = 0;
-    for _ in 1..runs {
+    for start in &mut starts[1..] {
         random.step();
         at += random.below((count - at) / 2 + 1);
-        starts.push(at)?;
+        *start = at;
     }
-    Ok(starts)
+    starts
 }
 
 // The numbers below `runs`, each once, shuffled.
-fn order(alloc: Global, mut random: Random, runs: usize) -> Result<Vec<usize>, AllocError> {
-    let mut order: Vec<usize> = (0..runs).collect(alloc)?;
-    shuffle(&mut random, &mut order);
-    Ok(order)
-}
-
-fn shuffle(random: &mut Random, order: &mut [usize]) {
-    for i in 1..order.len() {
+fn order(mut random: Random, runs: usize) -> [usize; MOST]
+    requires { runs ≤ 8 }
+{
+    let mut order = [0, 1, 2, 3, 4, 5, 6, 7];
+    for i in 1..runs {
         random.step();
         order.swap(i, random.below(i + 1));
     }
+    order
 }
 
 // ---- one run
@@ -79,32 +75,35 @@ impl Span {
 // ---- all runs
 
 // Neighbours are joined until one record is left.
-fn join_all(mut random: Random, mut records: Vec<RunRecord>) -> Option<RunRecord> {
-    while 1 < records.len() {
+fn join_all(mut random: Random, mut records: [RunRecord; MOST], runs: usize) -> Option<RunRecord>
+    requires { runs ≤ 8 }
+{
+    for last in (1..runs).rev() {
         random.step();
-        let i = random.below(records.len() - 1);
-        let right = records.remove(i + 1);
-        records[i] = records[i].join(right).ok()?;
+        let i = random.below(last);
+        records[i] = records[i].join(records[i + 1]).ok()?;
+        records.copy_within(i + 2.., i + 1);
     }
-    records.pop()
+    records.first().copied()
 }
 
 impl Cut {
     // A cut of `count` blocks into 1 to 8 runs.
-    pub fn of(alloc: Global, seed: u32, count: usize) -> Result<Cut, AllocError> {
+    pub fn of(seed: u32, count: usize) -> Cut {
         let random = Random::seeded(seed);
-        let runs = random.below(8) + 1;
+        let runs = random.below(MOST) + 1;
         let other = random.reseeded();
-        Ok(Cut {
-            starts: starts(alloc, random, runs, count)?,
-            order: order(alloc, other, runs)?,
+        Cut {
+            runs,
+            starts: starts(random, count),
+            order: order(other, runs),
             random: other.reseeded(),
-        })
+        }
     }
 
     // Run i of a text. The last run has what is left and, where it is padded, a block more than whole blocks.
     fn span(&self, i: usize, text: &[u8], padded: bool) -> Option<Span> {
-        let (first, rest) = self.starts.get(i..)?.split_first()?;
+        let (first, rest) = self.starts.get(i..self.runs)?.split_first()?;
         let from = first.checked_mul(16)?;
         let (to, stop) = match rest.first() {
             Some(next) => (next.checked_mul(16)?, next.checked_mul(16)?),
@@ -123,24 +122,17 @@ impl Cut {
     // The record of all runs of a text, each worked in its turn. Where one has no record there is none.
     pub fn work<F: FnMut(Span) -> Option<RunRecord>>(
         self,
-        alloc: Global,
         text: &[u8],
         padded: bool,
         mut work: F,
-    ) -> Result<Option<RunRecord>, AllocError>
+    ) -> Option<RunRecord>
         requires { F.IsAlwaysCallable work }
     {
-        let mut records = vec![in alloc; record(0, 0, [0u8; 16]); self.starts.len()]?;
-        for i in &self.order {
-            let span = self.span(*i, text, padded);
-            let (Some(span), Some(lent)) = (span, records.get_mut(*i)) else {
-                return Ok(None);
-            };
-            let Some(run) = work(span) else {
-                return Ok(None);
-            };
-            *lent = run;
+        let mut records = [record(0, 0, [0u8; 16]); MOST];
+        for i in self.order.get(..self.runs)? {
+            let run = work(self.span(*i, text, padded)?)?;
+            *records.get_mut(*i)? = run;
         }
-        Ok(join_all(self.random, records))
+        join_all(self.random, records, self.runs)
     }
 }

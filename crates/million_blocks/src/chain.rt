@@ -5,7 +5,9 @@ ghost use Rattle.std.specs.Prelude.{◌≤◌};
 use case_records::answer::record;
 use case_records::keyed::Keyed;
 use mode::RunRecord;
-use std::alloc::{AllocError, Global};
+
+// The most blocks of a run, and one more.
+pub const BLOCKS: usize = 2049;
 
 // The last ciphertext block, which is the next block of the message, and the record of the blocks so far.
 #[derive(Clone, Copy)]
@@ -34,46 +36,19 @@ impl Link {
     }
 }
 
-// Blocks in message order, and the ciphertext of the last of them; and the record of all but that.
-#[derive(Drop)]
-pub struct Chain {
-    pub blocks: Vec<[u8; 16]>,
-    pub run: RunRecord,
-}
-
-impl Chain {
-    // A block, which has this number, and the ciphertext of `count` blocks from it on. Where an answer is not as it should be they stop before it.
-    pub fn of(
-        alloc: Global,
-        keyed: Keyed,
-        block: [u8; 16],
-        number: u32,
-        count: u32,
-    ) -> Result<Chain, AllocError>
-        requires number_bound { number ≤ 1000000 }
-        requires count_bound { count ≤ 2048 }
-    {
-        let mut blocks = vec![in alloc; block]?;
-        let mut last = Link::none(block, number);
-        for n in 0..count {
-            let Some(next) = last.next(keyed, number + n) else {
-                break;
-            };
-            last = next;
-            blocks.push(last.block)?;
-        }
-        Ok(Chain {
-            blocks,
-            run: last.run,
-        })
+// Behind a block, which has this number, the ciphertext of `count` blocks from it on, in order. The answer is their record. Where a call does not
+// answer as it should, block and record are zero, so that it shows in all that is counted after it.
+pub fn fill(keyed: Keyed, number: u32, count: u32, blocks: &mut [[u8; 16]; BLOCKS]) -> RunRecord
+    requires number_bound { number ≤ 1000000 }
+    requires count_bound { count ≤ 2048 }
+{
+    let mut last = Link::none(blocks[0], number);
+    for n in 0..count {
+        last = last
+            .next(keyed, number + n)
+            .unwrap_or(Link::none([0u8; 16], 0));
+        let block = last.block;
+        blocks[n as usize + 1] = block;
     }
-
-    // The blocks that have a ciphertext, and their ciphertext.
-    pub fn text_and_cipher(&self) -> (&[[u8; 16]], &[[u8; 16]]) {
-        let size = self.blocks.len().saturating_sub(1);
-        (
-            &self.blocks[..size],
-            self.blocks.get(1..).unwrap_or_default(),
-        )
-    }
+    last.run
 }

@@ -53,7 +53,7 @@ fn main(rt: HostRuntime) -> io::Result<()> {
     };
     let m1 = block(b"00112233445566778899AABBCCDDEEFF");
     report_first(&rt, keyed, m1)?;
-    let all = whole::run(rt.alloc(), keyed, m1)?;
+    let all = whole::run(keyed, m1);
     report_runs(&rt, all)?;
     report_last(&rt, keyed, all)
 }

@@ -1,12 +1,11 @@
 // All 1,000,000 blocks, in runs of at most 2,048: what was sealed a block at a time is sealed again as one run, and checked as one run.
-ghost use Rattle.std.specs.Prelude.{◌+◌, ◌<◌, ◌≤◌, IfOk};
+ghost use Rattle.std.specs.Prelude.{◌+◌, ◌<◌, ◌≤◌};
 
-use crate::chain::Chain;
+use crate::chain::{BLOCKS, fill};
 use case_records::answer::record;
 use case_records::keyed::Keyed;
 use case_tools::held::{checks, seals};
 use mode::RunRecord;
-use std::alloc::{AllocError, Global};
 
 // What blocks have come to: the last one, its ciphertext, which is the next block of the message, and their record; and how much of their runs
 // agreed, sealed again and checked. It is given for one run, and for all so far.
@@ -29,24 +28,21 @@ fn no_record() -> RunRecord {
 const TEXT: usize = 32784;
 
 // A run of `count` blocks from a number on. Sealing it again gives a ciphertext and a record, checking it a record.
-fn one_run(
-    alloc: Global,
-    keyed: Keyed,
-    first: [u8; 16],
-    number: u32,
-    count: u32,
-) -> Result<Whole, AllocError>
+fn one_run(keyed: Keyed, first: [u8; 16], number: u32, count: u32) -> Whole
     requires number_bound { number ≤ 1000000 }
     requires count_bound { count ≤ 2048 }
-    ensures { IfOk result (λ one. (one.sealed ≤ 2) × (one.checked ≤ 1)) }
+    ensures { (result.sealed ≤ 2) × (result.checked ≤ 1) }
 {
-    let chain = Chain::of(alloc, keyed, first, number, count)?;
-    let run = chain.run;
-    let (text, cipher) = chain.text_and_cipher();
+    let size = count as usize;
+    let mut blocks = [first; BLOCKS];
+    let run = fill(keyed, number, count, &mut blocks);
+    let all = blocks.as_slice();
+    let text = &all[..size];
+    let cipher = &all[1..size + 1];
     let mut out = [0u8; TEXT];
-    Ok(Whole {
+    Whole {
         block: text.last().copied().unwrap_or(first),
-        next: cipher.last().copied().unwrap_or(first),
+        next: blocks[size],
         run,
         sealed: seals(
             keyed,
@@ -56,7 +52,7 @@ fn one_run(
             &mut out,
         ),
         checked: usize::from(checks(keyed, cipher.as_flattened(), run)),
-    })
+    }
 }
 
 // ---- all runs
@@ -92,7 +88,7 @@ impl Whole {
     }
 }
 
-const BLOCKS: u32 = 1000000;
+const ALL: u32 = 1000000;
 
 // The most blocks of a run, and the runs.
 const MOST: u32 = 2048;
@@ -100,13 +96,13 @@ const MOST: u32 = 2048;
 const RUNS: u32 = 489;
 
 // All runs, from the first block of the message on.
-pub fn run(alloc: Global, keyed: Keyed, first: [u8; 16]) -> Result<Whole, AllocError> {
+pub fn run(keyed: Keyed, first: [u8; 16]) -> Whole {
     let mut so_far = Whole::none(first);
     for n in 0..RUNS {
         let number = n * MOST;
-        let count = MOST.min(BLOCKS - number);
-        let one = one_run(alloc, keyed, so_far.next, number, count)?;
+        let count = MOST.min(ALL - number);
+        let one = one_run(keyed, so_far.next, number, count);
         so_far = so_far.with(one);
     }
-    Ok(so_far)
+    so_far
 }

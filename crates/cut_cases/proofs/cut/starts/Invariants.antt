@@ -2,5 +2,5 @@
 use Prim.Native.Nat.{◌≤◌}
 use Rattle.cut_cases.proofs.cut.starts.Given as goal
 
-abbrev pub invariant-loop : goal.invariant-loop
-invariant-loop l = l.at ≤ l.count
+abbrev pub invariant-loop-start : goal.invariant-loop-start
+invariant-loop-start l = l.at ≤ l.count
